@@ -1,0 +1,5 @@
+//! Serializers: lists of items that write themselves.
+pub mod elements;
+pub mod lent;
+pub mod nullable;
+pub mod serializer;

@@ -1,0 +1,3 @@
+pub mod Octets
+pub mod Recv
+pub mod Utf8

@@ -1,0 +1,4 @@
+pub mod Fitting
+pub mod Reading
+pub mod Wording
+pub mod Writing

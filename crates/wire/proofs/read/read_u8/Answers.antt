@@ -1,0 +1,6 @@
+use borrow.Author.Needs.{needs}
+use Rattle.wire.proofs.Wording.{word-1}
+use Rattle.wire.proofs.read.read_u8.Needs as need
+
+pub returns : need.returns
+returns c = search (needs, word-1)
