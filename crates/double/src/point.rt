@@ -82,6 +82,7 @@ pub impl PartialEq<Box> for Box as BoxPartialEq {
     ghost equals = { Same-box };
 
     fn eq(&self, other: &Box) -> bool {
-        self.upper_right == other.upper_right && self.lower_left == other.lower_left
+        let upper = self.upper_right == other.upper_right;
+        upper && self.lower_left == other.lower_left
     }
 }

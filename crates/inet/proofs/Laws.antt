@@ -10,7 +10,6 @@ use lib.ListN.{length, getD, take, drop}
 use Rattle.std.proofs.shelf.Lists.{take-append-drop, take-all, length-drop, drop-drop}
 use Rattle.std.proofs.shelf.Tests.{leb-true, eqb-true, le-leb}
 use Rattle.std.specs.declared.result.Result.{Result}
-use Rattle.std.specs.shelf.Digits.{number}
 use Rattle.std.specs.declared.result.Result.the-variants.{Ok, Err}
 use Rattle.fault.specs.declared.Fault.{Fault}
 use Rattle.fault.specs.declared.Rule.the-variants.{Truncated, Family}
@@ -18,7 +17,7 @@ use Rattle.wire.specs.Bytes.{Octets}
 use Rattle.fault.specs.Faults.{fault}
 use Rattle.wire.specs.Words.{be, word}
 use Rattle.wire.proofs.Reading.{word-lt}
-use Rattle.wire.proofs.Wording.{number-be, be-word}
+use Rattle.wire.proofs.Wording.{number-be, be-same, be-word}
 use Rattle.inet.specs.declared.address.Inet.{Inet}
 use Rattle.inet.specs.declared.address.IpAddr.{IpAddr}
 use Rattle.inet.specs.declared.address.IpAddr.the-variants.{V4, V6}
@@ -37,10 +36,6 @@ reads-back (V6 high low) mask whole h ignored =
     let m = number-be 8 high (whole .0) in
     let n = number-be 8 low (whole .1) in
     rw (t, m, n)
-
--- the bytes of a number tell it
-be-same : (w m n : ℕ) → m < 256 ^ w → n < 256 ^ w → be w m ≡ be w n → m ≡ n
-be-same w m n p q e = sym (number-be w m p) ∙ ap (λ ds. number 256 ds) e ∙ number-be w n q
 
 pub distinct : (a : IpAddr) (mask : ℕ) → Whole a → Distinct a mask
 distinct (V4 a) mask whole (V4 b) m other e =

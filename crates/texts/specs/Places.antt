@@ -1,10 +1,12 @@
 -- What a texts source means, from its pools and places alone.
-use mathlib.Core.Bool.{Bool, true, false, cond}
+use mathlib.Core.Bool.{cond}
 use mathlib.Core.List.{List, [], _∷_}
 use Prim.Native.Nat.{ℕ, zero, suc, _+_, _^_}
 use lib.Dec.{leb, ltb}
 use lib.ListN.{length, getD, take, drop}
 use denote.Ref.{RefT}
+use native.Mathlib.Omega.{arith}
+use Rattle.std.proofs.shelf.Tests.{ltb-true, cond-both}
 use Rattle.std.specs.Options.{mapped}
 use Rattle.std.specs.declared.option.Option.{Option}
 use Rattle.std.specs.declared.option.Option.the-variants.{Some, None}
@@ -61,3 +63,26 @@ place-item ps k (At s) = part-item k (looked-up ps s)
 abbrev pub place-items : Bytes → ℕ → List Place → List Item
 place-items ps k [] = []
 place-items ps k (p ∷ places) = place-item ps k p ∷ place-items ps (k + 1) places
+
+-- what is no longer than the rule allows is short
+checked-short : (k : ℕ) (r : Result (List ℕ) Fault) → Short (checked-item k r)
+checked-short k (Ok bs) =
+    cond-both (ltb (length bs) (2 ^ 31)) (Ok (Some bs)) (Err (fault TooGreat k)) Short (λ e. omega (arith, ltb-true (length bs) (2 ^ 31) e)) (λ e. tt)
+checked-short k (Err f) = tt
+
+part-short : (k : ℕ) (v : Value) → Short (part-item k v)
+part-short k (Some bs) = checked-short k (text-recv bs)
+part-short k None = tt
+
+place-short : (ps : Bytes) (k : ℕ) (p : Place) → Short (place-item ps k p)
+place-short ps k Absent = tt
+place-short ps k (At s) = part-short k (looked-up ps s)
+
+short-from : (ps : Bytes) (first : ℕ) (places : List Place) (k : ℕ) (f : Fault) → Short (getD (place-items ps first places) k (Err f))
+short-from ps first [] k f = tt
+short-from ps first (p ∷ places) zero f = place-short ps first p
+short-from ps first (p ∷ places) (suc k) f = short-from ps (first + 1) places k f
+
+-- no item's payload is longer than a length word holds
+pub places-short : (ps : Bytes) (places : List Place) (k : ℕ) → Short (item-at (place-items ps 0 places) k)
+places-short ps places k = short-from ps 0 places k _

@@ -1,6 +1,8 @@
 //! A list of places as a serializer.
 ghost use denote.Ref.{now};
 ghost use mathlib.Core.Path.{_≡_};
+ghost use Rattle.serializer.specs.Lists.{item-at};
+ghost use Rattle.wire.specs.Words.{seen};
 ghost use Rattle.texts.specs.Places.{pool-pair, place-items, places-short};
 use crate::place::Place;
 use crate::pools::Pools;
@@ -23,6 +25,16 @@ impl<'a> Texts<'a> {
     {
         Texts { pools, places }
     }
+
+    // Item k: rule 10 at k where there is no such place, else the text at it.
+    fn item(&self, k: usize) -> Result<Option<&'a [u8]>, Fault>
+        ensures { λ r. ⌜ seen r ≡ item-at (place-items (pool-pair (now (self .entry) .pools)) 0 (now (now (self .entry) .places))) k ⌝ }
+    {
+        if k >= self.places.len() {
+            return Err(Fault::new(Rule::Missing, k));
+        }
+        self.pools.text(self.places[k], k)
+    }
 }
 
 pub impl<'a> Serializer for Texts<'a> as TextsSerializer {
@@ -35,20 +47,14 @@ pub impl<'a> Serializer for Texts<'a> as TextsSerializer {
     }
 
     fn size(&self, k: usize) -> Result<Option<usize>, Fault> {
-        if k >= self.places.len() {
-            return Err(Fault::new(Rule::Missing, k));
-        }
-        match self.pools.text(self.places[k], k)? {
+        match self.item(k)? {
             Some(text) => Ok(Some(text.len())),
             None => Ok(None),
         }
     }
 
     fn write(&self, k: usize, part: &mut [u8]) -> Result<IsNull, Fault> {
-        if k >= self.places.len() {
-            return Err(Fault::new(Rule::Missing, k));
-        }
-        match self.pools.text(self.places[k], k)? {
+        match self.item(k)? {
             Some(text) => {
                 put_bytes(part, 0, text)?;
                 Ok(IsNull::No)

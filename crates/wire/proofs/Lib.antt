@@ -1,4 +1,7 @@
+pub mod Counts
+pub mod Cursors
 pub mod Fitting
+pub mod Nullables
 pub mod Reading
 pub mod Wording
 pub mod Writing

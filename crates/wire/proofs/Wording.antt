@@ -68,3 +68,7 @@ be-4 n = simp (div-div-eq-div-mul)
 
 pub be-8 : (n : ℕ) → be 8 n ≡ (n / 72057594037927936 % 256) ∷ (n / 281474976710656 % 256) ∷ (n / 1099511627776 % 256) ∷ (n / 4294967296 % 256) ∷ (n / 16777216 % 256) ∷ (n / 65536 % 256) ∷ (n / 256 % 256) ∷ (n % 256) ∷ []
 be-8 n = simp (div-div-eq-div-mul)
+
+-- the bytes of a number tell it
+pub be-same : (w m n : ℕ) → m < 256 ^ w → n < 256 ^ w → be w m ≡ be w n → m ≡ n
+be-same w m n p q e = sym (number-be w m p) ∙ ap (number 256) e ∙ number-be w n q

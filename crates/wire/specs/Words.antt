@@ -15,8 +15,13 @@ use Rattle.std.specs.declared.result.Result.{Result}
 use Rattle.std.specs.declared.result.Result.the-variants.{Ok, Err}
 use Rattle.std.specs.shelf.Digits.{number}
 use Rattle.fault.specs.declared.Fault.{Fault}
-use Rattle.fault.specs.declared.Rule.the-variants.{Truncated, Overrun}
+use Rattle.fault.specs.declared.Rule.the-variants.{Truncated, Overrun, Negative}
 use Rattle.fault.specs.Faults.{fault}
+
+-- a fault is passed up, and a value on
+abbrev pub then : {X Y : Type 0} → Result X Fault → (X → Result Y Fault) → Result Y Fault
+then (Ok x) on = on x
+then (Err f) on = Err f
 
 -- n in w bytes, the most significant first
 abbrev pub be : ℕ → ℕ → List ℕ
@@ -53,6 +58,14 @@ i32-at bs at = signed w32 (u32-at bs at)
 
 abbrev pub i64-at : List ℕ → ℕ → Result ℤ Fault
 i64-at bs at = signed w64 (u64-at bs at)
+
+-- a count: a signed word that is not below 0
+abbrev pub natural : ℕ → ℤ → Result ℕ Fault
+natural at (pos n) = Ok n
+natural at (negsuc n) = Err (fault Negative at)
+
+abbrev pub count-at : List ℕ → ℕ → Result ℕ Fault
+count-at bs at = then (i32-at bs at) (natural at)
 
 -- a signed number of 32 bits as it is written
 abbrev pub int : ℤ → List ℕ

@@ -1,6 +1,6 @@
 //! Big-endian words and the length word, read at an offset.
 ghost use mathlib.Core.Path.{_≡_};
-ghost use Rattle.wire.specs.Words.{u8-at, i8-at, u32-at, i32-at, u64-at, i64-at, value-at, seen};
+ghost use Rattle.wire.specs.Words.{u8-at, i8-at, u32-at, i32-at, u64-at, i64-at, count-at, value-at, seen};
 use fault::Fault;
 use fault::Rule;
 
@@ -62,6 +62,17 @@ pub fn read_i64(buf: &[u8], at: usize) -> Result<i64, Fault>
     ensures { λ r. ⌜ r ≡ i64-at (now (buf .entry)) at ⌝ }
 {
     Ok(read_u64(buf, at)?.cast_signed())
+}
+
+// The count at `at`: rule 4 there where it is below 0.
+pub fn read_count(buf: &[u8], at: usize) -> Result<usize, Fault>
+    ensures { λ r. ⌜ r ≡ count-at (now (buf .entry)) at ⌝ }
+{
+    let count = read_i32(buf, at)?;
+    if count < 0 {
+        return Err(Fault::new(Rule::Negative, at));
+    }
+    Ok(count as usize)
 }
 
 // The value behind the length word at `at`: NULL for any negative length, else that many bytes.

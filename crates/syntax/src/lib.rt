@@ -1,0 +1,3 @@
+//! The words of the line protocol: byte strings, numbers and faults, printed and read.
+pub mod parse;
+pub mod print;
