@@ -2,9 +2,16 @@
 use mathlib.Core.Path.{_≡_}
 use mathlib.Core.List.{List, [], _∷_}
 use Prim.Native.Nat.{ℕ}
+use lib.IntN.{pos}
+use Rattle.std.specs.declared.option.Option.the-variants.{Some, None}
 use Rattle.std.specs.declared.result.Result.the-variants.{Ok, Err}
-use Rattle.fault.specs.declared.Rule.the-variants.{Mask}
+use Rattle.fault.specs.declared.Rule.the-variants.{Mask, Product}
 use Rattle.fault.specs.Faults.{fault}
+use Rattle.wire.specs.Cursor.{Reads, read-nullable}
+use Rattle.wire.specs.Words.{Value}
+use Rattle.array.specs.declared.dimension.ArrayDimension.{ArrayDimension}
+use Rattle.array.specs.Layout.{array-layout}
+use Rattle.array.specs.Recv.{Opened, opened-with, array-recv, read-dimension, at-dimensions, at-values}
 use Rattle.inet.specs.declared.address.IpAddr.{IpAddr}
 use Rattle.inet.specs.declared.address.IpAddr.the-variants.{V4}
 use Rattle.inet.specs.Layout.{inet-layout}
@@ -22,7 +29,38 @@ host-24 = 0x02 ∷ 0x18 ∷ 0x00 ∷ 0x04 ∷ 0xC0 ∷ 0x00 ∷ 0x02 ∷ 0x07 �
 abbrev pub host-33 : List ℕ
 host-33 = 0x02 ∷ 0x21 ∷ 0x00 ∷ 0x04 ∷ 0xC0 ∷ 0x00 ∷ 0x02 ∷ 0x07 ∷ []
 
+-- an array of OID 23 with one dimension of two elements from 1: 7 and NULL
+abbrev pub two : List ArrayDimension
+two = record { len = pos 2; «lower_bound» = pos 1 } ∷ []
+
+abbrev pub seven-null : List Value
+seven-null = Some (0x00 ∷ 0x00 ∷ 0x00 ∷ 0x07 ∷ []) ∷ None ∷ []
+
+-- 00000001 00000001 00000017 00000002 00000001 00000004 00000007 FFFFFFFF
+abbrev pub seven-null-bytes : List ℕ
+seven-null-bytes =
+    0x00 ∷ 0x00 ∷ 0x00 ∷ 0x01 ∷ 0x00 ∷ 0x00 ∷ 0x00 ∷ 0x01 ∷ 0x00 ∷ 0x00 ∷ 0x00 ∷ 0x17
+    ∷ 0x00 ∷ 0x00 ∷ 0x00 ∷ 0x02 ∷ 0x00 ∷ 0x00 ∷ 0x00 ∷ 0x01
+    ∷ 0x00 ∷ 0x00 ∷ 0x00 ∷ 0x04 ∷ 0x00 ∷ 0x00 ∷ 0x00 ∷ 0x07 ∷ 0xFF ∷ 0xFF ∷ 0xFF ∷ 0xFF ∷ []
+
+abbrev pub seven-null-opened : Opened
+seven-null-opened = opened-with seven-null-bytes 1 1 23 2
+
+-- two dimensions from 1, the first of 65536
+abbrev pub wide : ℕ → ℕ → List ℕ
+wide high low =
+    0x00 ∷ 0x00 ∷ 0x00 ∷ 0x02 ∷ 0x00 ∷ 0x00 ∷ 0x00 ∷ 0x00 ∷ 0x00 ∷ 0x00 ∷ 0x00 ∷ 0x17
+    ∷ 0x00 ∷ 0x01 ∷ 0x00 ∷ 0x00 ∷ 0x00 ∷ 0x00 ∷ 0x00 ∷ 0x01
+    ∷ 0x00 ∷ 0x00 ∷ high ∷ low ∷ 0x00 ∷ 0x00 ∷ 0x00 ∷ 0x01 ∷ []
+
 pub record Specimens : Type 0 where
   pub inet-written : inet-layout host 24 ≡ host-24
   pub inet-read : inet-recv host-24 ≡ Ok (inet host 24)
   pub inet-mask : inet-recv host-33 ≡ Err (fault Mask 1)
+  pub array-written : array-layout two 23 seven-null ≡ seven-null-bytes
+  pub array-opened : array-recv seven-null-bytes ≡ Ok seven-null-opened
+  pub array-dimensions : Reads read-dimension (at-dimensions seven-null-opened) two
+  pub array-values : Reads read-nullable (at-values seven-null-opened) seven-null
+  -- 65536 times 32767 elements open, 65536 times 32768 do not
+  pub product-fits : array-recv (wide 0x7F 0xFF) ≡ Ok (opened-with (wide 0x7F 0xFF) 2 0 23 2147418112)
+  pub product-past : array-recv (wide 0x80 0x00) ≡ Err (fault Product 20)

@@ -1,0 +1,10 @@
+pub mod Back
+pub mod Dimensions
+pub mod Distinct
+pub mod Extents
+pub mod Factors
+pub mod Forms
+pub mod Steps
+pub mod Turns
+pub mod Whole
+pub mod Written
