@@ -22,7 +22,7 @@ use Rattle.array.specs.declared.dimension.ArrayDimension.{ArrayDimension}
 use Rattle.array.specs.Laws.{Words}
 use Rattle.array.specs.Layout.{dimension, dimensions}
 use Rattle.array.specs.Recv.{read-dimension}
-use Rattle.array.proofs.Factors.{then-ok, i32-ok}
+use Rattle.wire.proofs.Taking.{then-ok, i32-ok}
 
 -- a signed number that stands behind others
 int-back : (pre rest : List ℕ) (z : ℤ) → SFits w32 z → i32-at (pre ++ (int z ++ rest)) (length pre) ≡ Ok z

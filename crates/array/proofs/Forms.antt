@@ -25,7 +25,8 @@ use Rattle.array.specs.Laws.{times, product, element-count, Words, Sound, Form
 use Rattle.array.specs.Layout.{dimension, dimensions, array-bytes}
 use Rattle.array.specs.Recv.{Opened, opened-with, product-from, at-values}
 use Rattle.array.proofs.Dimensions.{word-cut, dimension-at, dimension-words, dimension-cut}
-use Rattle.array.proofs.Factors.{then-ok, uint-ok, count-ok, factor, Factor, factor-ok, product-more}
+use Rattle.wire.proofs.Taking.{then-ok, uint-ok, count-ok}
+use Rattle.array.proofs.Factors.{factor, Factor, factor-ok, product-more}
 
 -- what a product that was read tells: the dimensions that it is made of
 record Made (n : ℕ) (bs : List ℕ) (at p q : ℕ) : Type 0 where

@@ -24,7 +24,8 @@ use Rattle.inet.specs.declared.address.IpAddr.the-variants.{V4, V6}
 use Rattle.inet.specs.Laws.{Reads-back, Distinct, Laid-out}
 use Rattle.inet.specs.Layout.{Whole, widest, octets, inet-bytes, inet-layout}
 use Rattle.inet.specs.Recv.{inet, mask-of, masked, inet-recv}
-use Rattle.inet.proofs.Steps.{passed, Right, right}
+use Rattle.wire.proofs.Taking.{passed}
+use Rattle.inet.proofs.Steps.{Right, right}
 
 pub reads-back : (a : IpAddr) (mask : ℕ) → Whole a → Reads-back a mask
 reads-back (V4 a) mask whole h ignored =

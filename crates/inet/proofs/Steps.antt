@@ -14,16 +14,11 @@ use Rattle.fault.specs.declared.Rule.the-variants.{Truncated, Trailing, Mask, O
 use Rattle.wire.specs.Bytes.{put, over}
 use Rattle.fault.specs.Faults.{fault}
 use Rattle.wire.specs.Words.{word, uint-at}
-use Rattle.wire.proofs.Reading.{uint-never, uint-is}
+use Rattle.wire.proofs.Taking.{passed}
 use Rattle.inet.specs.declared.address.Inet.{Inet}
 use Rattle.inet.specs.declared.address.IpAddr.{IpAddr}
 use Rattle.inet.specs.declared.address.IpAddr.the-variants.{V4, V6}
 use Rattle.inet.specs.Recv.{inet, mask-of, masked, inet-recv}
-
--- a test that was passed
-pub passed : {X : Type 0} (b : Bool) (r : Result X Fault) (f : Fault) (x : X) → Ok x ≡ cond b r (Err f) → (b ≡ true) × (Ok x ≡ r)
-passed true r f x e = (refl, e)
-passed false r f x e = let z : _≡_ {A = ℕ} 0 1 = cc in absurd (omega arith)
 
 -- a mask was answered: all tests were passed
 pub record Right (widest count : ℕ) (bs : List ℕ) (mask : ℕ) : Type 0 where

@@ -5,7 +5,7 @@ use Prim.Native.Nat.{ℕ}
 use lib.IntN.{pos}
 use Rattle.std.specs.declared.option.Option.the-variants.{Some, None}
 use Rattle.std.specs.declared.result.Result.the-variants.{Ok, Err}
-use Rattle.fault.specs.declared.Rule.the-variants.{Mask, Product}
+use Rattle.fault.specs.declared.Rule.the-variants.{Overrun, Trailing, Mask, Product}
 use Rattle.fault.specs.Faults.{fault}
 use Rattle.wire.specs.Cursor.{Reads, read-nullable}
 use Rattle.wire.specs.Words.{Value}
@@ -16,6 +16,7 @@ use Rattle.inet.specs.declared.address.IpAddr.{IpAddr}
 use Rattle.inet.specs.declared.address.IpAddr.the-variants.{V4}
 use Rattle.inet.specs.Layout.{inet-layout}
 use Rattle.inet.specs.Recv.{inet, inet-recv}
+use Rattle.varbit.specs.Recv.{varbit-recv}
 
 -- 192.0.2.7
 abbrev pub host : IpAddr
@@ -53,6 +54,10 @@ wide high low =
     ∷ 0x00 ∷ 0x01 ∷ 0x00 ∷ 0x00 ∷ 0x00 ∷ 0x00 ∷ 0x00 ∷ 0x01
     ∷ 0x00 ∷ 0x00 ∷ high ∷ low ∷ 0x00 ∷ 0x00 ∷ 0x00 ∷ 0x01 ∷ []
 
+-- ten bits: 0000000A and the bytes behind it
+abbrev pub ten-bits : List ℕ → List ℕ
+ten-bits bytes = 0x00 ∷ 0x00 ∷ 0x00 ∷ 0x0A ∷ bytes
+
 pub record Specimens : Type 0 where
   pub inet-written : inet-layout host 24 ≡ host-24
   pub inet-read : inet-recv host-24 ≡ Ok (inet host 24)
@@ -64,3 +69,7 @@ pub record Specimens : Type 0 where
   -- 65536 times 32767 elements open, 65536 times 32768 do not
   pub product-fits : array-recv (wide 0x7F 0xFF) ≡ Ok (opened-with (wide 0x7F 0xFF) 2 0 23 2147418112)
   pub product-past : array-recv (wide 0x80 0x00) ≡ Err (fault Product 20)
+  -- ten bits have two bytes, no fewer and no more
+  pub varbit-read : varbit-recv (ten-bits (0xA0 ∷ 0x40 ∷ [])) ≡ Ok (10, 0xA0 ∷ 0x40 ∷ [])
+  pub varbit-short : varbit-recv (ten-bits (0xA0 ∷ [])) ≡ Err (fault Overrun 0)
+  pub varbit-long : varbit-recv (ten-bits (0xA0 ∷ 0x40 ∷ 0x00 ∷ [])) ≡ Err (fault Trailing 6)

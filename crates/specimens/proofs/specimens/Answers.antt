@@ -15,5 +15,8 @@ returns c = record {
       array-values = more refl (more refl (end refl));
       product-fits = refl;
       product-past = refl;
+      varbit-read = refl;
+      varbit-short = refl;
+      varbit-long = refl;
     };
   }

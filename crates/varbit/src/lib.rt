@@ -1,0 +1,3 @@
+//! Bit strings as varbit_send writes them and varbit_recv reads them.
+pub mod read;
+pub mod write;
