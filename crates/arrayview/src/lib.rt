@@ -1,0 +1,4 @@
+//! Reading arrays: the view and its cursors.
+pub mod dimensions;
+pub mod read;
+pub mod values;
