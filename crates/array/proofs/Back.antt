@@ -15,7 +15,7 @@ use Rattle.std.specs.declared.option.Option.the-variants.{Some, None}
 use Rattle.std.specs.declared.result.Result.the-variants.{Ok}
 use Rattle.std.specs.shelf.Lists.{All}
 use Rattle.wire.specs.Cursor.{Reads, Row, Nullable, read-nullable, before}
-use Rattle.wire.specs.Words.{Value, then, be, word, i32-at, u32-at, natural, count-at}
+use Rattle.wire.specs.Words.{Value, then, be, i32-at, u32-at, natural, count-at}
 use Rattle.wire.proofs.Cursors.{reads-row}
 use Rattle.wire.proofs.Nullables.{i32-back, nullable-forms}
 use Rattle.wire.proofs.Reading.{uint-fits}
@@ -97,7 +97,7 @@ module _ (flag : ℕ) (ds : List ArrayDimension) (oid : ℕ) (vs : List Value) (
 
   -- where the elements begin
   start-back : length (head (length ds) flag oid ++ dimensions ds) ≡ 12 + 8 * length ds
-  start-back = let long = length-dimensions ds in length-append (head (length ds) flag oid) (dimensions ds) ∙ ap (λ n. 12 + n) long
+  start-back = length-append (head (length ds) flag oid) (dimensions ds) ∙ ap (λ n. 12 + n) (length-dimensions ds)
 
   dimensions-back : Reads read-dimension (before (take (12 + 8 * length ds) (array-bytes flag ds oid last)) 12 (length ds)) ds
   dimensions-back =

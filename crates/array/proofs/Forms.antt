@@ -84,10 +84,6 @@ opened-forms bs n flag oid p vs opened small count flags type tested is reads =
     let last = drop (12 + 8 * n) bs in
     let low : word 4 bs 4 < 2 ^ 32 = word-lt 4 bs 4 small (f .0) in
     let high : word 4 bs 8 < 2 ^ 32 = word-lt 4 bs 8 small (o .0) in
-    let flag-is = f .1 in
-    let oid-is = o .1 in
-    let counted = m .count in
-    let few = c .2 in
     let whole : bs ≡ array-bytes flag (m .ds) oid last =
     word-cut 4 bs 0 small (c .0)
     ∙ ap (λ k. be 4 k ++ drop 4 bs) (c .1 ∙ sym (m .count))

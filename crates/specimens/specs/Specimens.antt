@@ -16,6 +16,10 @@ use Rattle.inet.specs.declared.address.IpAddr.{IpAddr}
 use Rattle.inet.specs.declared.address.IpAddr.the-variants.{V4}
 use Rattle.inet.specs.Layout.{inet-layout}
 use Rattle.inet.specs.Recv.{inet, inet-recv}
+use Rattle.range.specs.declared.bound.RangeBound.{RangeBound}
+use Rattle.range.specs.declared.bound.RangeBound.the-variants.{Inclusive, Exclusive}
+use Rattle.range.specs.Layout.{range-layout}
+use Rattle.range.specs.Recv.{range-recv}
 use Rattle.varbit.specs.Recv.{varbit-recv}
 
 -- 192.0.2.7
@@ -58,6 +62,19 @@ wide high low =
 abbrev pub ten-bits : List ℕ → List ℕ
 ten-bits bytes = 0x00 ∷ 0x00 ∷ 0x00 ∷ 0x0A ∷ bytes
 
+-- [3, 9)
+abbrev pub from-3 : RangeBound Value
+from-3 = Inclusive (Some (0x00 ∷ 0x00 ∷ 0x00 ∷ 0x03 ∷ []))
+
+abbrev pub to-9 : RangeBound Value
+to-9 = Exclusive (Some (0x00 ∷ 0x00 ∷ 0x00 ∷ 0x09 ∷ []))
+
+-- 02 00000004 00000003 00000004 00000009
+abbrev pub from-3-to-9 : List ℕ
+from-3-to-9 =
+    0x02 ∷ 0x00 ∷ 0x00 ∷ 0x00 ∷ 0x04 ∷ 0x00 ∷ 0x00 ∷ 0x00 ∷ 0x03
+    ∷ 0x00 ∷ 0x00 ∷ 0x00 ∷ 0x04 ∷ 0x00 ∷ 0x00 ∷ 0x00 ∷ 0x09 ∷ []
+
 pub record Specimens : Type 0 where
   pub inet-written : inet-layout host 24 ≡ host-24
   pub inet-read : inet-recv host-24 ≡ Ok (inet host 24)
@@ -73,3 +90,8 @@ pub record Specimens : Type 0 where
   pub varbit-read : varbit-recv (ten-bits (0xA0 ∷ 0x40 ∷ [])) ≡ Ok (10, 0xA0 ∷ 0x40 ∷ [])
   pub varbit-short : varbit-recv (ten-bits (0xA0 ∷ [])) ≡ Err (fault Overrun 0)
   pub varbit-long : varbit-recv (ten-bits (0xA0 ∷ 0x40 ∷ 0x00 ∷ [])) ≡ Err (fault Trailing 6)
+  pub range-written : range-layout from-3 to-9 ≡ from-3-to-9
+  pub range-read : range-recv from-3-to-9 ≡ Ok (Some (from-3, to-9))
+  -- 01 is the empty range, and nothing may follow it
+  pub range-empty : range-recv (0x01 ∷ []) ≡ Ok None
+  pub range-trailing : range-recv (0x01 ∷ 0x00 ∷ []) ≡ Err (fault Trailing 1)

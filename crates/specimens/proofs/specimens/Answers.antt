@@ -18,5 +18,9 @@ returns c = record {
       varbit-read = refl;
       varbit-short = refl;
       varbit-long = refl;
+      range-written = refl;
+      range-read = refl;
+      range-empty = refl;
+      range-trailing = refl;
     };
   }
