@@ -74,11 +74,11 @@ laid a bs i family behind e =
     let r = right (widest a) (length (octets a)) bs (t .0) (t .1) in
     let b = behind (r .long) in
     let whole : bs ≡ inet-bytes (getD bs 2 0) a (t .0) =
-      four bs (omega (arith, r .long))
-      ∙ ap (λ f. f ∷ getD bs 1 0 ∷ getD bs 2 0 ∷ getD bs 3 0 ∷ drop 4 bs) family
-      ∙ ap (λ m. getD (inet-layout a 0) 0 0 ∷ m ∷ getD bs 2 0 ∷ getD bs 3 0 ∷ drop 4 bs) (sym (r .is))
-      ∙ ap (λ n. getD (inet-layout a 0) 0 0 ∷ t .0 ∷ getD bs 2 0 ∷ n ∷ drop 4 bs) (r .counted)
-      ∙ ap (λ os. getD (inet-layout a 0) 0 0 ∷ t .0 ∷ getD bs 2 0 ∷ length (octets a) ∷ os) (sym (b .0)) in
+    four bs (omega (arith, r .long))
+    ∙ ap (λ f. f ∷ getD bs 1 0 ∷ getD bs 2 0 ∷ getD bs 3 0 ∷ drop 4 bs) family
+    ∙ ap (λ m. getD (inet-layout a 0) 0 0 ∷ m ∷ getD bs 2 0 ∷ getD bs 3 0 ∷ drop 4 bs) (sym (r .is))
+    ∙ ap (λ n. getD (inet-layout a 0) 0 0 ∷ t .0 ∷ getD bs 2 0 ∷ n ∷ drop 4 bs) (r .counted)
+    ∙ ap (λ os. getD (inet-layout a 0) 0 0 ∷ t .0 ∷ getD bs 2 0 ∷ length (octets a) ∷ os) (sym (b .0)) in
     subst (λ j. (bs ≡ inet-bytes (getD bs 2 0) (j .addr) (j .netmask)) × (j .netmask ≤ widest (j .addr)) × Whole (j .addr)) (sym (t .2)) (whole, r .narrow, b .1)
 
 behind-4 : (bs : List ℕ) → Octets bs → length bs ≡ 8 → Behind (V4 (word 4 bs 4)) bs

@@ -3,10 +3,10 @@ ghost use mathlib.Core.Path.{_≡_};
 ghost use Rattle.std.specs.Of.Vec.{vec-items};
 ghost use Rattle.std.specs.Vec.{made};
 ghost use Rattle.protocol.specs.Reply.{bad-request, refused};
+use fault::Fault;
 use std::alloc::AllocError;
 use std::alloc::Global;
 use syntax::print::push_fault;
-use fault::Fault;
 
 // A line that is no request.
 pub fn bad_request(heap: Global) -> Result<Vec<u8>, AllocError>

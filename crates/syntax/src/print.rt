@@ -8,8 +8,8 @@ ghost use Rattle.std.specs.Vec.{made};
 ghost use Rattle.std.specs.Written.{decimal};
 ghost use Rattle.syntax.specs.Parsed.{Reads-back};
 ghost use Rattle.syntax.specs.Printed.{digit, hex, fault-text};
-use std::alloc::AllocError;
 use fault::Fault;
+use std::alloc::AllocError;
 
 // Two hexadecimal digits for each byte.
 pub fn push_hex(out: &mut Vec<u8>, bytes: &[u8]) -> Result<(), AllocError>

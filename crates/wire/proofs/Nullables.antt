@@ -66,12 +66,12 @@ payload-form bs at w v true small h is low t e =
     let fits = leb-true (at + 4 + w) (length bs) t in
     let long : length p ≡ w = length-take-le w (drop (at + 4) bs) (simp length-drop (omega arith)) in
     let whole : take (4 + w) (drop at bs) ≡ be 4 w ++ p =
-      take-add 4 w (drop at bs)
-      ∙ ap (λ l. take 4 (drop at bs) ++ take w l) (drop-drop 4 at bs)
-      ∙ ap (λ l. l ++ p) (sym (be-word 4 bs at small h) ∙ ap (be 4) is) in
+    take-add 4 w (drop at bs)
+    ∙ ap (λ l. take 4 (drop at bs) ++ take w l) (drop-drop 4 at bs)
+    ∙ ap (λ l. l ++ p) (sym (be-word 4 bs at small h) ∙ ap (be 4) is) in
     let size : length (nullable (Some p)) ≡ 4 + w = omega arith in
     let forms : (at + length (nullable (Some p)) ≤ length bs) × Nullable (Some p) (take (length (nullable (Some p))) (drop at bs)) =
-      (omega arith, (omega arith, ap (λ n. take n (drop at bs)) size ∙ whole ∙ ap (λ n. be 4 n ++ p) (sym long))) in
+    (omega arith, (omega arith, ap (λ n. take n (drop at bs)) size ∙ whole ∙ ap (λ n. be 4 n ++ p) (sym long))) in
     let same : _≡_ {A = Value} (Some p) v = cc in
     subst (λ u. (at + length (nullable u) ≤ length bs) × Nullable u (take (length (nullable u)) (drop at bs))) same forms
 
@@ -102,9 +102,9 @@ read-form bs at n v (Err f) is small e = let z : _≡_ {A = ℕ} 0 1 = cc in abs
 
 pub nullable-forms : Reads-forms read-nullable Nullable
 nullable-forms = record {
-    reads = λ pre e rest v f. ap (sized (λ u. length (nullable u))) (value-back pre rest e v f) ∙ ap (λ n. Ok (v, n)) (length-form e v f);
-    formed = λ bs at n v small e. read-form bs at n v (value-at bs at) refl small e;
-  }
+  reads = λ pre e rest v f. ap (sized (λ u. length (nullable u))) (value-back pre rest e v f) ∙ ap (λ n. Ok (v, n)) (length-form e v f);
+  formed = λ bs at n v small e. read-form bs at n v (value-at bs at) refl small e;
+}
 
 -- as it is written, a value has one of its forms
 pub nullable-written : (v : Value) → Within 2147483647 (Ok v) → Nullable v (nullable v)

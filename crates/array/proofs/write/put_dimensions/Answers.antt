@@ -18,7 +18,7 @@ loop-dim-again c =
     let same : c .in-Continue-at .at ≡ c .loop-dim .at + 8 = let a = c .in-Continue-at .ensures tt .answer in cc in (
       omega arith,
       put-on 12 _ (dimensions (take i ds)) (dimension (getD ds i _)) (c .args .part .now) (omega arith) (omega arith) (c .loop-dim .inv .1) (c .put-dimension .ensures .after)
-      ∙ ap (λ ws. put 12 ws (c .args .part .now)) (sym (dimensions-more ds i _ (c .loop-dim-test .taken))),
+          ∙ ap (λ ws. put 12 ws (c .args .part .now)) (sym (dimensions-more ds i _ (c .loop-dim-test .taken))),
     )
 
 pub returns : need.returns
