@@ -19,6 +19,7 @@ use Rattle.inet.specs.declared.address.IpAddr.{IpAddr}
 use Rattle.inet.specs.declared.address.IpAddr.the-variants.{V4, V6}
 use Rattle.inet.specs.Layout.{octets, inet-layout}
 use Rattle.inet.specs.Recv.{inet, inet-recv}
+use Rattle.listing.specs.Answers.{element-list-answer, texts-answer}
 use Rattle.syntax.specs.Parsed.{bytes-in, number-in, split-at, unhex}
 use Rattle.syntax.specs.Printed.{byte-string, fault-text, hex}
 use Rattle.text.specs.Recv.{text-recv}
@@ -92,7 +93,9 @@ abbrev pub answer-to : List ℕ → List ℕ → List ℕ
 answer-to name rest =
     cond (sameBytes name (codes "text_from_sql")) (on-bytes (λ bs. text-answer (text-recv bs)) (bytes-in rest))
     (cond (sameBytes name (codes "inet_from_sql")) (on-bytes (λ bs. inet-answer (inet-recv bs)) (bytes-in rest))
-    (cond (sameBytes name (codes "inet_to_sql")) (on-inet (λ i. wrote (Ok (inet-layout (i .addr) (i .netmask)))) (inet-in rest)) bad-request))
+    (cond (sameBytes name (codes "inet_to_sql")) (on-inet (λ i. wrote (Ok (inet-layout (i .addr) (i .netmask)))) (inet-in rest))
+    (cond (sameBytes name (codes "element_list")) (element-list-answer (split-at 32 rest))
+    (cond (sameBytes name (codes "texts")) (texts-answer (split-at 32 rest)) bad-request))))
 
 abbrev pub on-words : Option (List ℕ × List ℕ) → List ℕ
 on-words (Some p) = answer-to (p .0) (p .1)

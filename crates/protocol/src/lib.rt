@@ -3,6 +3,8 @@ ghost use mathlib.Core.Path.{_≡_};
 ghost use Rattle.std.specs.Of.Vec.{vec-items};
 ghost use Rattle.std.specs.Vec.{made};
 ghost use Rattle.protocol.specs.Reply.{answer-to, reply-to};
+use listing::requests::element_list;
+use listing::requests::texts;
 use std::alloc::AllocError;
 use std::alloc::Global;
 use syntax::parse::split_at_first;
@@ -10,13 +12,12 @@ use syntax::parse::split_at_first;
 mod address;
 mod answers;
 mod requests;
-mod words;
 
 use answers::bad_request;
 use requests::inet_from_sql;
 use requests::inet_to_sql;
 use requests::text_from_sql;
-use words::same;
+use syntax::compare::same;
 
 // A longer line is a bad request.
 const LONGEST_LINE: usize = 65536;
@@ -44,6 +45,10 @@ fn answer(heap: Global, name: &[u8], argument: &[u8]) -> Result<Vec<u8>, AllocEr
         inet_from_sql(heap, argument)
     } else if same(name, b"inet_to_sql") {
         inet_to_sql(heap, argument)
+    } else if same(name, b"element_list") {
+        element_list(heap, argument)
+    } else if same(name, b"texts") {
+        texts(heap, argument)
     } else {
         bad_request(heap)
     }

@@ -1,4 +1,4 @@
-//! The words of a line.
+//! Comparing words.
 ghost use mathlib.Core.Path.{_≡_};
 ghost use Rattle.std.specs.shelf.Text.{sameBytes};
 

@@ -1,0 +1,5 @@
+//! Requests with lists: what the items of a serializer are.
+pub mod list;
+pub mod print;
+pub mod requests;
+pub mod words;
