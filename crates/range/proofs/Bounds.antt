@@ -22,17 +22,22 @@ use Rattle.range.specs.Laws.{Kind, Bound-form}
 use Rattle.range.specs.Recv.{has, kind, bound-at}
 
 -- a value with its number of bytes, as a bound with the place behind it
-placed : Bool → ℕ → Value × ℕ → Result (RangeBound Value × ℕ) Fault
+abbrev placed : Bool → ℕ → Value × ℕ → Result (RangeBound Value × ℕ) Fault
 placed inclusive at p = Ok (kind inclusive (p .0), at + p .1)
 
 sized-on : (r : Result Value Fault) (at : ℕ) (b : Bool) → then r (λ v. Ok (kind b v, at + length (nullable v))) ≡ then (sized (λ v. length (nullable v)) r) (placed b at)
-unfolding placed
 sized-on (Ok v) at b = refl
 sized-on (Err f) at b = refl
 
+-- a value that was read, and the rest behind it
+value-formed : (bs : List ℕ) (at : ℕ) (v : Value) → Octets bs → value-at bs at ≡ Ok v → let n = length (nullable v) in Nullable v (take n (drop at bs)) × (drop at bs ≡ take n (drop at bs) ++ drop (at + n) bs)
+value-formed bs at v small e =
+    let n = length (nullable v) in
+    let f = nullable-forms .formed bs at n v small (ap (sized (λ u. length (nullable u))) e) in
+    (f .1, sym (take-append-drop n (drop at bs)) ∙ ap (λ l. take n (drop at bs) ++ l) (drop-drop n at bs))
+
 module _ (tag inclusive unbounded : ℕ) where
   value-reads : (pre e rest : List ℕ) (v : Value) (b : Bool) → has unbounded tag ≡ false → has inclusive tag ≡ b → Nullable v e → bound-at tag inclusive unbounded (pre ++ (e ++ rest)) (length pre) ≡ Ok (kind b v, length pre + length e)
-  unfolding placed
   value-reads pre e rest v b bounded is form =
       cond-false _ _ _ bounded
       ∙ sized-on (value-at (pre ++ (e ++ rest)) (length pre)) (length pre) (has inclusive tag)
@@ -52,29 +57,23 @@ module _ (tag inclusive unbounded : ℕ) where
     pub form : Bound-form (p .0) bytes
     pub here : drop at bs ≡ bytes ++ drop (p .1) bs
 
-  value-formed : (bs : List ℕ) (at : ℕ) (v : Value) → Octets bs → value-at bs at ≡ Ok v → let n = length (nullable v) in Nullable v (take n (drop at bs)) × (drop at bs ≡ take n (drop at bs) ++ drop (at + n) bs)
-  value-formed bs at v small e =
-      let n = length (nullable v) in
-      let f = nullable-forms .formed bs at n v small (ap (sized (λ u. length (nullable u))) e) in
-      (f .1, sym (take-append-drop n (drop at bs)) ∙ ap (λ l. take n (drop at bs) ++ l) (drop-drop n at bs))
+  value-kind : (b : Bool) (v : Value) (e : List ℕ) → has unbounded tag ≡ false → has inclusive tag ≡ b → Nullable v e → Kind inclusive unbounded tag (kind b v) × Bound-form (kind b v) e
+  value-kind true v e bounded is form = ((bounded, is), form)
+  value-kind false v e bounded is form = ((bounded, is), form)
 
-  bound-cases : (bs : List ℕ) (at : ℕ) (p : RangeBound Value × ℕ) (without with : Bool) → Octets bs → has unbounded tag ≡ without → has inclusive tag ≡ with
-      → cond without (Ok (Unbounded, at)) (then (value-at bs at) (λ v. Ok (kind with v, at + length (nullable v)))) ≡ Ok p → Formed bs at p
-  bound-cases bs at p true with small u i e =
+  bound-cases : (bs : List ℕ) (at : ℕ) (p : RangeBound Value × ℕ) (none b : Bool) → Octets bs → has unbounded tag ≡ none → has inclusive tag ≡ b
+      → cond none (Ok (Unbounded, at)) (then (value-at bs at) (λ v. Ok (kind b v, at + length (nullable v)))) ≡ Ok p → Formed bs at p
+  bound-cases bs at p true b small without is e =
       let same : _≡_ {A = RangeBound Value × ℕ} (Unbounded, at) p = cc in
-      subst (λ q. Formed bs at q) same (record { is = u; bytes = []; form = refl; here = refl })
-  bound-cases bs at p false true small u i e =
-      let t = then-ok (value-at bs at) (λ v. Ok (kind true v, at + length (nullable v))) p e in
+      subst (λ q. Formed bs at q) same (record { is = without; bytes = []; form = refl; here = refl })
+  bound-cases bs at p false b small bounded is e =
+      let t = then-ok (value-at bs at) (λ v. Ok (kind b v, at + length (nullable v))) p e in
+      let n = length (nullable (t .0)) in
       let f = value-formed bs at (t .0) small (t .1) in
-      let rest = t .2 in
-      let same : _≡_ {A = RangeBound Value × ℕ} (Inclusive (t .0), at + length (nullable (t .0))) p = cc in
-      subst (λ q. Formed bs at q) same (record { is = (u, i); bytes = take (length (nullable (t .0))) (drop at bs); form = f .0; here = f .1 })
-  bound-cases bs at p false false small u i e =
-      let t = then-ok (value-at bs at) (λ v. Ok (kind false v, at + length (nullable v))) p e in
-      let f = value-formed bs at (t .0) small (t .1) in
-      let rest = t .2 in
-      let same : _≡_ {A = RangeBound Value × ℕ} (Exclusive (t .0), at + length (nullable (t .0))) p = cc in
-      subst (λ q. Formed bs at q) same (record { is = (u, i); bytes = take (length (nullable (t .0))) (drop at bs); form = f .0; here = f .1 })
+      let k = value-kind b (t .0) (take n (drop at bs)) bounded is (f .0) in
+      let given = t .2 in
+      let same : _≡_ {A = RangeBound Value × ℕ} (kind b (t .0), at + n) p = cc in
+      subst (λ q. Formed bs at q) same (record { is = k .0; bytes = take n (drop at bs); form = k .1; here = f .1 })
 
   pub bound-formed : (bs : List ℕ) (at : ℕ) (p : RangeBound Value × ℕ) → Octets bs → bound-at tag inclusive unbounded bs at ≡ Ok p → Formed bs at p
   bound-formed bs at p small e = bound-cases bs at p (has unbounded tag) (has inclusive tag) small refl refl e

@@ -2,7 +2,7 @@
 use mathlib.Core.Path.{_≡_, refl, sym, ap, subst, _∙_}
 use mathlib.Core.Bool.{Bool, true, false, cond}
 use mathlib.Core.List.{List, [], _∷_, _++_}
-use Prim.Native.Nat.{ℕ, _+_, _≤_, _<_}
+use Prim.Native.Nat.{ℕ, _+_, _≤_}
 use native.Mathlib.Numerals.{one-add}
 use native.Mathlib.Omega.{arith}
 use lib.Dec.{ltb}
@@ -10,9 +10,7 @@ use lib.ListN.{length, drop}
 use Rattle.std.proofs.shelf.Lists.{append-nil, length-append, drop-all}
 use Rattle.std.proofs.shelf.Tests.{cond-true, cond-false, le-ltb, ltb-false}
 use Rattle.std.specs.declared.option.Option.the-variants.{Some, None}
-use Rattle.std.specs.declared.result.Result.{Result}
 use Rattle.std.specs.declared.result.Result.the-variants.{Ok, Err}
-use Rattle.fault.specs.declared.Fault.{Fault}
 use Rattle.fault.specs.declared.Rule.the-variants.{Trailing}
 use Rattle.fault.specs.Faults.{fault}
 use Rattle.wire.specs.Bytes.{Octets}

@@ -1,12 +1,11 @@
 -- A range that was written, and what is read from it.
-use mathlib.Core.Path.{_≡_, refl, sym, ap, subst, _∙_}
+use mathlib.Core.Path.{_≡_, refl, ap, subst}
 use mathlib.Core.Bool.{false}
 use mathlib.Core.List.{List}
 use Prim.Native.Nat.{ℕ, _<_}
 use lib.Dec.{lit<}
 use Rattle.std.specs.declared.option.Option.the-variants.{Some}
 use Rattle.std.specs.declared.result.Result.the-variants.{Ok}
-use Rattle.fault.specs.declared.Fault.{Fault}
 use Rattle.wire.specs.Items.{Item}
 use Rattle.wire.specs.Words.{Value, then}
 use Rattle.wire.proofs.Nullables.{nullable-written}
@@ -16,7 +15,7 @@ use Rattle.range.specs.declared.bound.RangeBound.the-variants.{Inclusive, Excl
 use Rattle.range.specs.Encoding.{bound-item}
 use Rattle.range.specs.Laws.{Kind, Bound-form, Bounded, Short-bound, Written-back, Distinct}
 use Rattle.range.specs.Layout.{tag, bound, range-layout}
-use Rattle.range.specs.Recv.{Content, has, range-recv}
+use Rattle.range.specs.Recv.{has, range-recv}
 use Rattle.wire.proofs.Taking.{then-ok}
 use Rattle.range.proofs.Laws.{reads-back}
 

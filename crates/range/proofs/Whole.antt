@@ -22,7 +22,7 @@ use Rattle.range.specs.declared.bound.RangeBound.the-variants.{Inclusive, Excl
 use Rattle.range.specs.Encoding.{bytes, bound-item, bound-encoding, range-encoding}
 use Rattle.range.specs.Layout.{side-tag, tag, bound, range-layout}
 use Rattle.wire.proofs.Taking.{then-ok}
-use Rattle.range.proofs.Layouts.{Tagged, tagged-as}
+use Rattle.range.proofs.Layouts.{tagged-as}
 
 -- a side that was measured: its bound with the item, and the bytes
 pub record Measured (is : List Item) (side : RangeBound ℕ) (n : ℕ) : Type 0 where

@@ -18,7 +18,7 @@ pub fn range_from_sql(buf: &[u8]) -> Result<Range<'_>, Fault>
     decode(buf)
 }
 
-// The empty range has its tag alone.
+// Behind an odd tag, and behind the bounds of an even one, no byte may remain.
 fn decode(buf: &[u8]) -> Result<Range<'_>, Fault>
     ensures { λ r. ⌜ told-range r ≡ range-recv (now (buf .entry)) ⌝ }
 {
