@@ -4,7 +4,9 @@ use mathlib.Core.Bool.{Bool, true, false, cond}
 use mathlib.Core.List.{List, _++_}
 use Prim.Native.Nat.{ℕ, _+_, _^_, _≤_, _<_}
 use native.Mathlib.Omega.{arith}
-use lib.Dec.{ltb}
+use lib.Dec.{T, ltb}
+use lib.Ieee.{binary64}
+use lib.Ieee.Bits.{ofBits-toBits, toBits-lt}
 use lib.ListN.{length, take, drop}
 use lib.Seq.{take-add}
 use Rattle.std.proofs.shelf.Lists.{take-all, take-append-drop, length-drop, drop-drop}
@@ -21,7 +23,7 @@ use Rattle.wire.specs.Words.{be, then, u64-at}
 use Rattle.wire.proofs.Reading.{word-lt}
 use Rattle.wire.proofs.Taking.{then-ok, uint-ok}
 use Rattle.wire.proofs.Wording.{number-be, be-word}
-use Rattle.geometry.specs.Laws.{Point-form, Box-form, Point-reads, Box-reads}
+use Rattle.geometry.specs.Laws.{Point-form, Box-form, Point-reads, Box-reads, Doubles, Point-distinct, Box-distinct}
 use Rattle.geometry.specs.Layout.{point-layout}
 use Rattle.geometry.specs.Recv.{point-at, point-recv, box-recv, whole}
 
@@ -112,3 +114,20 @@ box-reads bs small b = (
         bytes = parts;
       },
 )
+
+-- a point of doubles is read from its layout
+pub point-read : (p : Point) → Doubles p → point-recv (point-layout p) ≡ Ok p
+point-read p d =
+    let fx = subst T (sym (d .0)) tt in
+    let fy = subst T (sym (d .1)) tt in
+    point-words (double-word (p .x)) (double-word (p .y)) (toBits-lt binary64 (p .x) fx) (toBits-lt binary64 (p .y) fy)
+    ∙ ap Ok (point-back p (double-word (p .x)) (double-word (p .y)) (ofBits-toBits binary64 (p .x) fx) (ofBits-toBits binary64 (p .y) fy))
+
+pub point-distinct : (p : Point) → point-recv (point-layout p) ≡ Ok p → Point-distinct p
+point-distinct p read q d e = let a = point-read q d in let b = ap point-recv e in cc
+
+pub box-distinct : (b : Box) → point-recv (point-layout (b .«upper_right»)) ≡ Ok (b .«upper_right») → point-recv (point-layout (b .«lower_left»)) ≡ Ok (b .«lower_left») → Box-distinct b
+box-distinct b first second c d f e =
+    let upper = point-distinct (b .«upper_right») first (c .«upper_right») d (ap (take 16) e) in
+    let lower = point-distinct (b .«lower_left») second (c .«lower_left») f (ap (drop 16) e) in
+    ap (λ p. corners p (c .«lower_left»)) upper ∙ ap (corners (b .«upper_right»)) lower

@@ -8,6 +8,7 @@ ghost use Rattle.double.specs.Points.{point, corners};
 ghost use Rattle.wire.specs.Bytes.{put};
 ghost use Rattle.wire.specs.Encoding.{told, laid, room-for};
 ghost use Rattle.wire.specs.Words.{be};
+ghost use Rattle.geometry.specs.Laws.{Point-distinct, Box-distinct};
 ghost use Rattle.geometry.specs.Layout.{point-layout, box-layout};
 ghost use Rattle.geometry.specs.Recv.{point-recv, box-recv};
 use double::word::to_word;
@@ -21,6 +22,7 @@ pub fn point_to_sql(x: f64, y: f64, part: &mut [u8]) -> Result<usize, Fault>
     ensures answer { λ r. ⌜ r ≡ told (room-for (length (now (part .entry))) (Ok (point-layout (point x y)))) ⌝ }
     ensures after { λ _. ⌜ now (part .exit) ≡ laid (room-for (length (now (part .entry))) (Ok (point-layout (point x y)))) (now (part .entry)) ⌝ }
     ensures written_back { λ _. ⌜ point-recv (point-layout (point x y)) ≡ Ok (point x y) ⌝ }
+    ensures distinct { λ _. ⌜ Point-distinct (point x y) ⌝ }
 {
     write_point(to_word(x), to_word(y), part)
 }
@@ -31,6 +33,7 @@ pub fn box_to_sql(x1: f64, y1: f64, x2: f64, y2: f64, part: &mut [u8]) -> Result
     ensures answer { λ r. ⌜ r ≡ told (room-for (length (now (part .entry))) (Ok (box-layout (corners (point x1 y1) (point x2 y2))))) ⌝ }
     ensures after { λ _. ⌜ now (part .exit) ≡ laid (room-for (length (now (part .entry))) (Ok (box-layout (corners (point x1 y1) (point x2 y2))))) (now (part .entry)) ⌝ }
     ensures written_back { λ _. ⌜ box-recv (box-layout (corners (point x1 y1) (point x2 y2))) ≡ Ok (corners (point x1 y1) (point x2 y2)) ⌝ }
+    ensures distinct { λ _. ⌜ Box-distinct (corners (point x1 y1) (point x2 y2)) ⌝ }
 {
     write_box(to_word(x1), to_word(y1), to_word(x2), to_word(y2), part)
 }

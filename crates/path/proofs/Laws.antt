@@ -7,7 +7,7 @@ use native.Mathlib.Omega.{arith}
 use lib.Dec.{T, eqb, lit<}
 use lib.Ieee.{binary64}
 use lib.Ieee.Bits.{ofBits-toBits, toBits-lt}
-use lib.ListN.{length, take, drop}
+use lib.ListN.{length, getD, take, drop}
 use mir.Syntax.{w32}
 use Rattle.std.proofs.shelf.Lists.{append-assoc, length-append, take-append-drop, drop-drop}
 use Rattle.std.proofs.shelf.Signed.{toZ-pos}
@@ -18,10 +18,10 @@ use Rattle.fault.specs.declared.Fault.{Fault}
 use Rattle.double.specs.declared.point.Point.{Point}
 use Rattle.double.specs.Doubles.{double-word, word-double}
 use Rattle.double.specs.Points.{point}
-use Rattle.geometry.specs.Laws.{Point-form}
+use Rattle.geometry.specs.Laws.{Doubles, Point-form}
 use Rattle.geometry.specs.Layout.{point-layout}
 use Rattle.geometry.specs.Recv.{point-at}
-use Rattle.geometry.proofs.Laws.{point-formed, point-back}
+use Rattle.geometry.proofs.Laws.{point-formed, point-back, point-read, point-distinct}
 use Rattle.wire.specs.Bytes.{Octets}
 use Rattle.wire.specs.Cursor.{Reads-forms, Row, none, one, Reads, sized}
 use Rattle.wire.specs.Words.{be, then, natural, uint-at, u64-at, u8-at, count-at}
@@ -30,7 +30,7 @@ use Rattle.wire.proofs.Nullables.{i32-back}
 use Rattle.wire.proofs.Reading.{uint-fits, word-lt}
 use Rattle.wire.proofs.Taking.{then-ok, uint-ok, count-ok}
 use Rattle.wire.proofs.Wording.{length-be, word-back, be-word}
-use Rattle.path.specs.Laws.{Doubles, Form, Opens, Reads-back, Only-forms, Written-back}
+use Rattle.path.specs.Laws.{Form, Opens, Reads-back, Only-forms, Written-back, Distinct}
 use Rattle.path.specs.Layout.{points-layout, path-bytes, path-layout}
 use Rattle.path.specs.Recv.{Opened, opened-with, path-recv, read-point, at-points}
 
@@ -141,3 +141,21 @@ pub written-back : (closed : Bool) (ps : List Point) → Written-back closed ps
 written-back closed ps few doubles =
     let form : Form (cond closed 1 0) ps (path-layout closed ps) = record { small = closed-byte closed; few = few; last = points-layout ps; whole = refl; row = written-row ps doubles } in
     subst (λ b. Opens (path-layout closed ps) b ps) (closed-back closed) (reads-back (path-layout closed ps) (cond closed 1 0) ps form)
+
+same-closed : (a b : Bool) → _≡_ {A = ℕ} (cond a 1 0) (cond b 1 0) → a ≡ b
+same-closed true true e = refl
+same-closed true false e = absurd (omega arith)
+same-closed false true e = absurd (omega arith)
+same-closed false false e = refl
+
+same-points : (qs ps : List Point) → All Doubles qs → All Doubles ps → points-layout qs ≡ points-layout ps → qs ≡ ps
+same-points [] [] d f e = refl
+same-points [] (p ∷ ps) d f e = let l = ap length e in absurd (omega arith)
+same-points (q ∷ qs) [] d f e = let l = ap length e in absurd (omega arith)
+same-points (q ∷ qs) (p ∷ ps) d f e =
+    let first = point-distinct p (point-read p (f .0)) q (d .0) (ap (take 16) e) in
+    ap (λ x. x ∷ qs) first ∙ ap (λ xs. p ∷ xs) (same-points qs ps (d .1) (f .1) (ap (drop 16) e))
+
+pub distinct : (closed : Bool) (ps : List Point) → Distinct closed ps
+distinct closed ps few doubles c qs less others e =
+    (same-closed c closed (ap (λ bs. getD bs 0 0) e), same-points qs ps others doubles (ap (drop 5) e))

@@ -1,22 +1,17 @@
 -- What ties writing, opening and reading a path together.
 use mathlib.Core.Path.{_≡_}
-use mathlib.Core.Bool.{Bool, true, not}
+use mathlib.Core.Bool.{Bool, not}
 use mathlib.Core.List.{List}
 use Prim.Native.Nat.{ℕ, _<_, _^_}
 use lib.Dec.{eqb}
-use lib.Ieee.{binary64, fits}
 use lib.ListN.{length}
 use Rattle.std.specs.declared.result.Result.the-variants.{Ok}
 use Rattle.std.specs.shelf.Lists.{All}
 use Rattle.double.specs.declared.point.Point.{Point}
-use Rattle.geometry.specs.Laws.{Point-form}
+use Rattle.geometry.specs.Laws.{Doubles, Point-form}
 use Rattle.wire.specs.Cursor.{Reads, Row}
 use Rattle.path.specs.Layout.{path-bytes, path-layout}
 use Rattle.path.specs.Recv.{Opened, path-recv, read-point, at-points}
-
--- the coordinates are doubles
-abbrev pub Doubles : Point → Type 0
-Doubles p = (fits binary64 (p .x) ≡ true) × (fits binary64 (p .y) ≡ true)
 
 -- the bytes of a path, with any closed byte and any words of the NaN
 pub record Form (byte : ℕ) (ps : List Point) (bs : List ℕ) : Type 0 where
@@ -44,3 +39,7 @@ Only-forms bs = (o : Opened) (ps : List Point) → path-recv bs ≡ Ok o → Rea
 -- what was written is opened and read to the end as it was handed in
 abbrev pub Written-back : Bool → List Point → Type 0
 Written-back closed ps = length ps < 2 ^ 31 → All Doubles ps → Opens (path-layout closed ps) closed ps
+
+-- no other path has these bytes
+abbrev pub Distinct : Bool → List Point → Type 0
+Distinct closed ps = length ps < 2 ^ 31 → All Doubles ps → (c : Bool) (qs : List Point) → length qs < 2 ^ 31 → All Doubles qs → path-layout c qs ≡ path-layout closed ps → (c ≡ closed) × (qs ≡ ps)

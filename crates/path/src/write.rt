@@ -6,7 +6,7 @@ ghost use Rattle.std.specs.declared.result.Result.the-variants.{Ok};
 ghost use Rattle.geometry.specs.Layout.{point-layout};
 ghost use Rattle.wire.specs.Bytes.{put};
 ghost use Rattle.wire.specs.Encoding.{told, laid, room-for};
-ghost use Rattle.path.specs.Laws.{Written-back};
+ghost use Rattle.path.specs.Laws.{Written-back, Distinct};
 ghost use Rattle.path.specs.Layout.{points-layout, path-encoding};
 use double::point::Point;
 use double::word::to_word;
@@ -22,6 +22,7 @@ pub fn path_to_sql(closed: bool, points: &[Point], part: &mut [u8]) -> Result<us
     ensures answer { λ r. ⌜ r ≡ told (room-for (length (now (part .entry))) (path-encoding closed (now (points .entry)))) ⌝ }
     ensures after { λ _. ⌜ now (part .exit) ≡ laid (room-for (length (now (part .entry))) (path-encoding closed (now (points .entry)))) (now (part .entry)) ⌝ }
     ensures written_back { λ _. ⌜ Written-back closed (now (points .entry)) ⌝ }
+    ensures distinct { λ _. ⌜ Distinct closed (now (points .entry)) ⌝ }
 {
     encode(closed, points, part)
 }
