@@ -1,4 +1,6 @@
 //! What holds after every life of a sheet, whichever serializers wrote it.
+#![tactic(auto)]
+
 ghost use Rattle.std.specs.Prelude.{◌≡◌, length, Decides};
 ghost use Rattle.record.specs.Recv.{record_recv};
 ghost use Rattle.record.specs.Views.{told_columns};

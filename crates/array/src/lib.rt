@@ -1,3 +1,5 @@
 //! Arrays as array_send writes them. The crate `arrayview` reads them.
+#![tactic(auto)]
+
 pub mod dimension;
 pub mod write;

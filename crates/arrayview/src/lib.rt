@@ -1,4 +1,6 @@
 //! Reading arrays: the view and its cursors.
+#![tactic(auto)]
+
 pub mod dimensions;
 pub mod read;
 pub mod values;

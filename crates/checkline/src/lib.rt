@@ -1,4 +1,6 @@
 //! The request that checks bytes against a pile.
+#![tactic(auto)]
+
 pub mod bottom;
 pub mod layers;
 pub mod piles;

@@ -1,4 +1,6 @@
 //! Reads requests on standard input, one to a line, and prints an answer line for each.
+#![tactic(auto)]
+
 use lines::LineBuffer;
 use std::io;
 use std::io::{Read, Write};

@@ -1,4 +1,6 @@
 //! What the columns of a sheet are filled with, each as a serializer of one item.
+#![tactic(auto)]
+
 pub mod array;
 pub mod encoded;
 pub mod formats;

@@ -1,3 +1,5 @@
 //! Doubles by their eight bytes, points and boxes.
+#![tactic(auto)]
+
 pub mod point;
 pub mod word;

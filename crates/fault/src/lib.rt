@@ -1,4 +1,6 @@
 //! What is wrong, where, and how many levels down.
+#![tactic(auto)]
+
 ghost use Rattle.std.specs.Prelude.{◌≡◌};
 ghost use Rattle.fault.specs.Faults.{number, fault, raise, up, foreign, told_foreign};
 

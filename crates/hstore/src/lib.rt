@@ -1,3 +1,5 @@
 //! Hstore values as hstore_send writes them. The crate `hstoreview` reads them.
+#![tactic(auto)]
+
 pub mod entry;
 pub mod write;

@@ -1,3 +1,5 @@
 //! Reading hstore values: the cursor over their entries.
+#![tactic(auto)]
+
 pub mod entries;
 pub mod read;

@@ -1,4 +1,6 @@
 //! Requests with lists: what the items of a serializer are.
+#![tactic(auto)]
+
 pub mod list;
 pub mod print;
 pub mod requests;

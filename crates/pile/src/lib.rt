@@ -1,4 +1,6 @@
 //! What piles of layers promise, at any depth and over any bottom.
+#![tactic(auto)]
+
 ghost use Rattle.std.specs.Prelude.{◌≡◌, List, length};
 ghost use Rattle.serializer.specs.Lists.{item_at};
 ghost use Rattle.wire.specs.Items.{fitting, filled};

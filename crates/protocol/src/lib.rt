@@ -1,4 +1,6 @@
 //! The line protocol of the codec program: a request in, an answer out.
+#![tactic(auto)]
+
 ghost use Rattle.std.specs.Prelude.{◌≡◌, IfOk};
 ghost use Rattle.protocol.specs.Reply.{alone_to, answer_to, writing_to, listing_to, reply_to};
 

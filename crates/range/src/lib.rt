@@ -1,4 +1,6 @@
 //! Ranges as range_send writes them and range_recv reads them.
+#![tactic(auto)]
+
 pub mod bound;
 pub mod read;
 pub mod write;

@@ -1,4 +1,6 @@
 //! The weights of a recipe's ingredients: a serializer with a fault of its own; and a validator with one.
+#![tactic(auto)]
+
 ghost use Rattle.std.specs.Prelude.{◌≡◌};
 ghost use Rattle.serializer.specs.Lists.{item_at};
 ghost use Rattle.recipe.specs.Weights.{overflow, int4, weighed, weights, weights_short};

@@ -1,3 +1,5 @@
 //! The request that reads a record.
+#![tactic(auto)]
+
 pub mod columns;
 pub mod requests;

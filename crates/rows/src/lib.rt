@@ -1,4 +1,6 @@
 //! The rows of layers, the table that holds them, and the items below that a row sees.
+#![tactic(auto)]
+
 mod filling;
 pub mod row;
 pub mod table;

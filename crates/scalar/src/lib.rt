@@ -1,4 +1,6 @@
 //! Words as bare payloads, as int4send and int8send write them and int4recv and int8recv read them.
+#![tactic(auto)]
+
 ghost use Rattle.std.specs.Prelude.{◌≡◌};
 ghost use Rattle.scalar.specs.Words.{int4_recv, int8_recv, Int4Exactly, Int8Exactly};
 

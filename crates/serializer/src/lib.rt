@@ -1,4 +1,6 @@
 //! Serializers: lists of items that write themselves.
+#![tactic(auto)]
+
 pub mod elements;
 pub mod lent;
 pub mod nullable;

@@ -1,4 +1,6 @@
 //! The worked examples, as one proved list.
+#![tactic(auto)]
+
 ghost use Rattle.std.specs.Prelude.{◌≡◌};
 ghost use Rattle.specimens.specs.Specimens.{Specimens};
 

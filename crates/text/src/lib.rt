@@ -1,4 +1,6 @@
 //! UTF-8 by RFC 3629.
+#![tactic(auto)]
+
 ghost use Rattle.std.specs.Prelude.{◌≡◌, true, ◌↔◌, is_ok};
 ghost use Rattle.text.specs.Recv.{text_recv, text_end, told_text};
 ghost use Rattle.text.specs.Utf8.{Text, Longest};

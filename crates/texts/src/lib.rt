@@ -1,4 +1,6 @@
 //! Texts that lie in two pools, named by places.
+#![tactic(auto)]
+
 pub mod place;
 pub mod pools;
 pub mod texts;

@@ -1,4 +1,6 @@
 //! What every format shares: big-endian words and the length word.
+#![tactic(auto)]
+
 pub mod oid;
 pub mod read;
 pub mod write;

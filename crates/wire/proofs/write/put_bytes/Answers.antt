@@ -10,5 +10,5 @@ returns c =
     let h : at + length ws ≤ length part = omega arith in
     record {
       answer = sym (told_fits at ws part h);
-      after = put_mid_is at _ ws part _ c.copy-from-slice.ensures.after (omega arith) ∙ sym (laid_fits at ws part h);
+      after = put_mid_is at _ ws part _ c.copy_from_slice.ensures.after (omega arith) ∙ sym (laid_fits at ws part h);
     }
