@@ -1,7 +1,7 @@
 //! Points and boxes.
 ghost use Rattle.std.specs.Prelude.{◌≡◌};
 ghost use Rattle.double.specs.Doubles.{double_word, word_double};
-ghost use Rattle.double.specs.Points.{point, corners, SamePoint, SameBox};
+ghost use Rattle.double.specs.Points.{point, corners, same_point, same_box, SamePoint, SameBox};
 ghost use Rattle.std.specs.Cmp.Rules.{comparing};
 ghost use Rattle.std.proofs.Common.{rules};
 
@@ -43,11 +43,14 @@ impl Point {
 
 // Coordinates are equal when their words are: 0.0 is not -0.0, and NaN is NaN.
 impl PartialEq for Point {
-    ghost equals = { SamePoint };
+    ghost eq = { same_point };
 
     ghost laws = { Prim.search (comparing, rules) };
 
-    fn eq(&self, other: &Point) -> bool {
+    fn eq(&self, other: &Point) -> bool
+        ensures gives { result ≡ same_point self.now other.now }
+        ensures words { SamePoint self.now other.now result }
+    {
         to_word(self.x) == to_word(other.x) && to_word(self.y) == to_word(other.y)
     }
 }
@@ -83,11 +86,14 @@ impl Box {
 }
 
 impl PartialEq for Box {
-    ghost equals = { SameBox };
+    ghost eq = { same_box };
 
     ghost laws = { Prim.search (comparing, rules) };
 
-    fn eq(&self, other: &Box) -> bool {
+    fn eq(&self, other: &Box) -> bool
+        ensures gives { result ≡ same_box self.now other.now }
+        ensures words { SameBox self.now other.now result }
+    {
         let upper = self.upper_right == other.upper_right;
         upper && self.lower_left == other.lower_left
     }

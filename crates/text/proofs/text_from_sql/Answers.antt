@@ -10,7 +10,7 @@ pub returns-then-end-bytes : goal.returns-then-end-bytes
 returns-then-end-bytes c =
     let bs = c.args.bytes.now in
     record {
-      answer = ap Err (c.new.ensures ∙ ap (fault NotText) c.whole-characters-end.ensures) ∙ sym (cond-false _ _ _ (ne_eqb (text_end bs) (length bs) (λ e. omega arith)));
+      answer = ap Err (c.new.ensures ∙ ap (fault NotText) c.whole_characters-end.ensures) ∙ sym (cond-false _ _ _ (ne_eqb (text_end bs) (length bs) (λ e. omega arith)));
       exactly = ((λ e. absurd (false≢true e)), λ t. absurd (omega (arith, reaches bs t)));
       place = longest bs;
     }

@@ -4,33 +4,33 @@ use Rattle.inet.proofs.Laws.{laid_out}
 use Rattle.inet.proofs.Steps.{right, recv_4, recv_6}
 use Rattle.inet.proofs.read.inet_from_sql.Goals as goal
 
-pub returns-in-err-high : goal.returns-in-err-high
-returns-in-err-high c =
-    let r = right 128 16 c.args.buf.now _ c.in-ok-netmask-2.ensures in
-    absurd (uint_never 8 c.args.buf.now 4 (omega (arith, r.long)) _ c.in-err-high.ensures)
+pub returns-in_err-high-in-3 : goal.returns-in_err-high-in-3
+returns-in_err-high-in-3 c =
+    let r = right 128 16 c.args.buf.now _ c.in_ok-netmask-in-3.ensures in
+    absurd (uint_never 8 c.args.buf.now 4 (omega (arith, r.long)) _ c.in_err-high-in-3.ensures)
 
-pub returns-in-err-low : goal.returns-in-err-low
-returns-in-err-low c =
-    let r = right 128 16 c.args.buf.now _ c.in-ok-netmask-2.ensures in
-    absurd (uint_never 8 c.args.buf.now 12 (omega (arith, r.long)) _ c.in-err-low.ensures)
+pub returns-in_err-low-in-3 : goal.returns-in_err-low-in-3
+returns-in_err-low-in-3 c =
+    let r = right 128 16 c.args.buf.now _ c.in_ok-netmask-in-3.ensures in
+    absurd (uint_never 8 c.args.buf.now 12 (omega (arith, r.long)) _ c.in_err-low-in-3.ensures)
 
-pub returns-in-ok-addr : goal.returns-in-ok-addr
-returns-in-ok-addr c =
+pub returns-in_ok-addr-in-2 : goal.returns-in_ok-addr-in-2
+returns-in_ok-addr-in-2 c =
     let bs = c.args.buf.now in
-    let mask = c.in-ok-netmask.ensures in
+    let mask = c.in_ok-netmask-in-2.ensures in
     let r = right 32 4 bs _ mask in
-    let n = uint_is 4 bs 4 (omega (arith, r.long)) _ c.in-ok-addr.ensures in
+    let n = uint_is 4 bs 4 (omega (arith, r.long)) _ c.in_ok-addr-in-2.ensures in
     let all = recv_4 bs c.if-buf-lt4.false _ c.in-2.is mask in
     let made = c.new-in-2.ensures in
-    record { answer = cc; layout = laid_out bs (octets_typed bs c.type-inv.buf) }
+    record { answer = cc; layout = laid_out bs (octets_typed bs c.type_inv.buf) }
 
-pub returns-in-ok-low : goal.returns-in-ok-low
-returns-in-ok-low c =
+pub returns-in_ok-low-in-3 : goal.returns-in_ok-low-in-3
+returns-in_ok-low-in-3 c =
     let bs = c.args.buf.now in
-    let mask = c.in-ok-netmask-2.ensures in
+    let mask = c.in_ok-netmask-in-3.ensures in
     let r = right 128 16 bs _ mask in
-    let m = uint_is 8 bs 4 (omega (arith, r.long)) _ c.in-ok-high.ensures in
-    let n = uint_is 8 bs 12 (omega (arith, r.long)) _ c.in-ok-low.ensures in
+    let m = uint_is 8 bs 4 (omega (arith, r.long)) _ c.in_ok-high-in-3.ensures in
+    let n = uint_is 8 bs 12 (omega (arith, r.long)) _ c.in_ok-low-in-3.ensures in
     let all = recv_6 bs c.if-buf-lt4.false _ c.in-3.is mask in
     let made = c.new-in-3.ensures in
-    record { answer = cc; layout = laid_out bs (octets_typed bs c.type-inv.buf) }
+    record { answer = cc; layout = laid_out bs (octets_typed bs c.type_inv.buf) }

@@ -29,35 +29,35 @@ returns-then-bytes-at c =
     let at = c.args.at in
     let few = length-drop (at + 1) bs in
     sym (ap character (drop_more bs at 0 c.if-at-bytes.false)
-    ∙ too_short (get_or bs at 0) (drop (at + 1) bs) (omega (arith, c.type-inv.bytes at)) (omega arith))
+    ∙ too_short (get_or bs at 0) (drop (at + 1) bs) (omega (arith, c.type_inv.bytes at)) (omega arith))
 
 pub returns-in-1 : goal.returns-in-1
 returns-in-1 c =
     let bs = c.args.bytes.now in
     let at = c.args.at in
-    sym (ap character (drop_more bs at 0 c.if-at-bytes.false) ∙ led_one (get_or bs at 0) (drop (at + 1) bs) (omega (arith, c.type-inv.bytes at)) (omega arith))
+    sym (ap character (drop_more bs at 0 c.if-at-bytes.false) ∙ led_one (get_or bs at 0) (drop (at + 1) bs) (omega (arith, c.type_inv.bytes at)) (omega arith))
 
 pub returns-in-2 : goal.returns-in-2
 returns-in-2 c =
     let bs = c.args.bytes.now in
     let at = c.args.at in
-    c.two-octets.ensures (drop (at + 2) bs) ∙ sym (ap character (drop_two bs at (omega arith)))
+    c.two_octets.ensures (drop (at + 2) bs) ∙ sym (ap character (drop_two bs at (omega arith)))
 
 pub returns-in-3 : goal.returns-in-3
 returns-in-3 c =
     let bs = c.args.bytes.now in
     let at = c.args.at in
-    c.three-octets.ensures (drop (at + 3) bs) ∙ sym (ap character (drop_three bs at (omega arith)))
+    c.three_octets.ensures (drop (at + 3) bs) ∙ sym (ap character (drop_three bs at (omega arith)))
 
 pub returns-in-4 : goal.returns-in-4
 returns-in-4 c =
     let bs = c.args.bytes.now in
     let at = c.args.at in
-    c.four-octets.ensures (drop (at + 4) bs) ∙ sym (ap character (drop_four bs at (omega arith)))
+    c.four_octets.ensures (drop (at + 4) bs) ∙ sym (ap character (drop_four bs at (omega arith)))
 
-pub returns-in-default : goal.returns-in-default
-returns-in-default c =
+pub returns-in_default : goal.returns-in_default
+returns-in_default c =
     let bs = c.args.bytes.now in
     let at = c.args.at in
     sym (ap character (drop_more bs at 0 c.if-at-bytes.false)
-    ∙ no_lead (get_or bs at 0) (drop (at + 1) bs) (omega (arith, c.type-inv.bytes at)) (λ e. omega arith) (λ e. omega arith) (λ e. omega arith) (λ e. omega arith))
+    ∙ no_lead (get_or bs at 0) (drop (at + 1) bs) (omega (arith, c.type_inv.bytes at)) (λ e. omega arith) (λ e. omega arith) (λ e. omega arith) (λ e. omega arith))
