@@ -85,10 +85,10 @@ box_reads bs small b = (
   λ f.
       let u = f.upper_form in
       let l = f.lower_form in
-      let corner : corners (point (word_double u.x_word) (word_double u.y_word)) (point (word_double l.x-word) (word_double l.y-word)) ≡ b
-      = ap (λ p. corners p (point (word_double l.x-word) (word_double l.y-word))) (sym u.is) ∙ ap (corners b.upper_right) (sym l.is) in
+      let corner : corners (point (word_double u.x_word) (word_double u.y_word)) (point (word_double l.x_word) (word_double l.y_word)) ≡ b
+      = ap (λ p. corners p (point (word_double l.x_word) (word_double l.y_word))) (sym u.is) ∙ ap (corners b.upper_right) (sym l.is) in
       ap box_recv (f.bytes ∙ ap (λ e. e ++ f.lower) u.bytes ∙ ap (λ e. (be 8 u.x_word ++ be 8 u.y_word) ++ e) l.bytes)
-      ∙ box_words u.x_word u.y_word l.x-word l.y-word u.x_fits u.y_fits l.x_fits l.y-fits
+      ∙ box_words u.x_word u.y_word l.x_word l.y_word u.x_fits u.y_fits l.x_fits l.y_fits
       ∙ ap Ok corner,
   λ e.
       let t = then_ok (point_at bs 0) (λ p. then (point_at bs 16) (λ q. whole bs 32 (corners p q))) b e in

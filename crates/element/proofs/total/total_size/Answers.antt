@@ -8,10 +8,10 @@ pub loop-element-preserved : goal.loop-element-preserved
 loop-element-preserved g c =
     let value = g.T.Element.value in
     let x = c.element-item.result in
-    let told : c.unwrap-or.result ≡ extent (value x) = c.unwrap-or.ensures ∙ ap (λ o. unwrap_or o 0) c.size.ensures ∙ extent_told (value x) in
+    let told : c.unwrap_or.result ≡ extent (value x) = c.unwrap_or.ensures ∙ ap (λ o. unwrap_or o 0) c.size.ensures ∙ extent_told (value x) in
     let more = extents_more value c.args.run.now c.loop-element.element-index x c.loop-element-test.true c.element-item.is in
     let inv : c.loop-element.bytes ≡ min (extents (map value (take c.loop-element.element-index c.args.run.now))) (2 ^ 64 - 1) = c.loop-element.invariant in
-    omega (arith, c.saturating-add-bytes.ensures)
+    omega (arith, c.saturating_add-bytes.ensures)
 
 pub returns-then-bytes-gt2147483647 : goal.returns-then-bytes-gt2147483647
 returns-then-bytes-gt2147483647 g c =

@@ -10,8 +10,8 @@ returns c =
     let ws = be 8 c.args.x1 ++ be 8 c.args.y1 in
     let vs = be 8 c.args.x2 ++ be 8 c.args.y2 in
     let is = roomy (length part) (ws ++ vs) refl c.if-part-lt32.false in
-    let both = put_on 0 16 ws vs part zero-le refl c.put-words.ensures.after c.put-words-2.ensures.after in
+    let both = put_on 0 16 ws vs part zero-le refl c.put_words.ensures.after c.put_words-2.ensures.after in
     record {
-      answer = c.put-words-2.ensures.answer ∙ sym (ap told is);
+      answer = c.put_words-2.ensures.answer ∙ sym (ap told is);
       after = both ∙ put_start (ws ++ vs) part ∙ sym (ap (λ e. laid e part) is);
     }

@@ -10,6 +10,6 @@ returns c =
     let ws = be 8 c.args.x ++ be 8 c.args.y in
     let is = roomy (length part) ws refl c.if-part-lt16.false in
     record {
-      answer = c.put-words.ensures.answer ∙ sym (ap told is);
-      after = c.put-words.ensures.after ∙ put_start ws part ∙ sym (ap (λ e. laid e part) is);
+      answer = c.put_words.ensures.answer ∙ sym (ap told is);
+      after = c.put_words.ensures.after ∙ put_start ws part ∙ sym (ap (λ e. laid e part) is);
     }

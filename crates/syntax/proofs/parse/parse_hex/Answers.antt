@@ -16,7 +16,7 @@ pub loop-i-preserved : goal.loop-i-preserved
 loop-i-preserved c =
     let ds = c.args.digits.now in
     let i = c.loop-i.i in
-    let behind = pushed (c.in-Some.b ∷ []) refl c.in-ok-push.was c.push.ensures.items in
+    let behind = pushed (c.in-Some.b ∷ []) refl c.in_ok-push-in-Some.was c.push.ensures.items in
     c.loop-i.invariant
     ∙ unhex_more (vec_items c.loop-i.bytes) ds i c.in-Some.b (omega arith) c.in-Some.ensures
     ∙ ap (λ bs. option_map (λ cs. bs ++ cs) (unhex (drop (2 * (i + 1)) ds))) (sym behind)

@@ -6,19 +6,19 @@ use Rattle.syntax.specs.Printed.{hex}
 use Rattle.syntax.proofs.Printing.{hex_more, reads_back}
 use Rattle.syntax.proofs.print.push_hex.Goals as goal
 
-pub returns-in-err-push : goal.returns-in-err-push
-returns-in-err-push c =
-    record { added = IfOk-from_err _ _ c.from-residual.ensures.0; reads_back = reads_back c.args.bytes.now }
+pub returns-in_err-push : goal.returns-in_err-push
+returns-in_err-push c =
+    record { added = IfOk-from_err _ _ c.from_residual.ensures.0; reads_back = reads_back c.args.bytes.now }
 
-pub returns-in-err-push-2 : goal.returns-in-err-push-2
-returns-in-err-push-2 c =
-    record { added = IfOk-from_err _ _ c.from-residual-in-err-push-2.ensures.0; reads_back = reads_back c.args.bytes.now }
+pub returns-in_err-push-2 : goal.returns-in_err-push-2
+returns-in_err-push-2 c =
+    record { added = IfOk-from_err _ _ c.from_residual-in_err-push-2.ensures.0; reads_back = reads_back c.args.bytes.now }
 
 pub loop-b-preserved : goal.loop-b-preserved
 loop-b-preserved c =
-    let high = pushed (c.hex-digit.result ∷ []) c.loop-b.invariant c.in-ok-push.was c.push.ensures.items in
-    let low = pushed (c.hex-digit-in-loop-b.result ∷ []) high c.in-ok-push-2.was c.push-in-loop-b.ensures.items in
-    low ∙ hex_more (vec_items c.args.out.now) c.args.bytes.now c.loop-b.b-index _ _ (omega arith) c.hex-digit.ensures c.hex-digit-in-loop-b.ensures
+    let high = pushed (c.hex_digit.result ∷ []) c.loop-b.invariant c.in_ok-push.was c.push.ensures.items in
+    let low = pushed (c.hex_digit-in-loop-b.result ∷ []) high c.in_ok-push-2.was c.push-in-loop-b.ensures.items in
+    low ∙ hex_more (vec_items c.args.out.now) c.args.bytes.now c.loop-b.b-index _ _ (omega arith) c.hex_digit.ensures c.hex_digit-in-loop-b.ensures
 
 pub returns : goal.returns
 returns c =

@@ -7,6 +7,6 @@ use Rattle.varbit.proofs.read.read_varbit.Goals as goal
 pub returns : goal.returns
 returns c =
     let bs = c.args.buf.now in
-    let n = c.in-ok-len.len in
+    let n = c.in_ok-len.len in
     let long : length bs ≡ 4 + begun n = omega arith in
-    ap (λ l. Ok (n, l)) (take_rest bs 4) ∙ sym (recv_is bs n c.in-ok-len.ensures long)
+    ap (λ l. Ok (n, l)) (take_rest bs 4) ∙ sym (recv_is bs n c.in_ok-len.ensures long)
