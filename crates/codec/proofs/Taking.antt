@@ -1,35 +1,34 @@
 -- Lines that are cut, and input that is taken in byte by byte.
-use Rattle.std.proofs.Common.{◌≡◌, ℕ, ◌<◌, ◌≤◌, true, false, cond, eqb, ltb, List, [], ◌∷◌, ◌++◌, length, take, sym, refl, ap, ◌∙◌, ⊎_elim, arith}
+use Rattle.std.proofs.Common.{◌≡◌, ℕ, ◌<◌, ◌≤◌, true, false, cond, eqb, ltb, List, [], ◌∷◌, ◌++◌, length, sym, refl, ap, ◌∙◌, ⊎_elim, arith}
 use Rattle.std.proofs.lemmas.List.{append_assoc, append-nil, length_push, length-take-le, take_all, take-append-le}
 use Rattle.std.proofs.lemmas.Bool.{cases_lt, cond-true, cond-false, lt-ltb, le-ltb, lt-leb, eq-eqb, ne_eqb}
-use Rattle.answers.specs.Plain.{bad_request}
-use Rattle.protocol.specs.Reply.{reply_to}
+use Rattle.protocol.specs.Reply.{reply_to, bad_request}
 use Rattle.codec.specs.Lines.{answer_line, printed, left, cut, Taken, Ended}
 
-cut_short : (line : List ℕ) → length line ≤ 1048577 → cut line ≡ line
-cut_short line h = take_all 1048577 line h
+cut_short : (line : List ℕ) → length line ≤ 65537 → cut line ≡ line
+cut_short line h = take_all 65537 line h
 
-too_long : (line : List ℕ) → 1048576 < length line → reply_to line ≡ bad_request
+too_long : (line : List ℕ) → 65536 < length line → reply_to line ≡ bad_request
 too_long line h = cond-false _ _ _ (lt-leb _ _ h)
 
 -- a line is answered by what is kept of it
 reply_cut : (line : List ℕ) → reply_to (cut line) ≡ reply_to line
 reply_cut line =
     ⊎_elim
-    (λ h. let k : 1048577 < length line = h in let long : length (cut line) ≡ 1048577 = length-take-le 1048577 line (omega arith) in too_long (cut line) (omega arith) ∙ sym (too_long line (omega arith)))
+    (λ h. let k : 65537 < length line = h in let long : length (cut line) ≡ 65537 = length-take-le 65537 line (omega arith) in too_long (cut line) (omega arith) ∙ sym (too_long line (omega arith)))
     (λ h. ap reply_to (cut_short line h))
-    (cases_lt 1048577 (length line))
+    (cases_lt 65537 (length line))
 
 -- one more byte
-cut_push : (line : List ℕ) (b : ℕ) → cond (ltb (length (cut line)) 1048577) (cut line ++ (b ∷ [])) (cut line) ≡ cut (line ++ (b ∷ []))
+cut_push : (line : List ℕ) (b : ℕ) → cond (ltb (length (cut line)) 65537) (cut line ++ (b ∷ [])) (cut line) ≡ cut (line ++ (b ∷ []))
 cut_push line b =
     ⊎_elim
-    (λ h. ap (λ l. cond (ltb (length l) 1048577) (l ++ (b ∷ [])) l) (cut_short line (omega arith))
+    (λ h. ap (λ l. cond (ltb (length l) 65537) (l ++ (b ∷ [])) l) (cut_short line (omega arith))
     ∙ cond-true _ _ _ (lt-ltb _ _ h)
-    ∙ sym (cut_short (line ++ (b ∷ [])) (let k : length line < 1048577 = h in simp length_push (omega arith))))
-    (λ h. let long : length (cut line) ≡ 1048577 = length-take-le 1048577 line h in
-    cond-false _ _ _ (le-ltb (length (cut line)) 1048577 (omega arith)) ∙ sym (take-append-le 1048577 line (b ∷ []) h))
-    (cases_lt (length line) 1048577)
+    ∙ sym (cut_short (line ++ (b ∷ [])) (let k : length line < 65537 = h in simp length_push (omega arith))))
+    (λ h. let long : length (cut line) ≡ 65537 = length-take-le 65537 line h in
+    cond-false _ _ _ (le-ltb (length (cut line)) 65537 (omega arith)) ∙ sym (take-append-le 65537 line (b ∷ []) h))
+    (cases_lt (length line) 65537)
 
 -- one byte behind others
 printed_push : (line bs : List ℕ) (b : ℕ) → printed line (bs ++ (b ∷ [])) ≡ printed line bs ++ printed (left line bs) (b ∷ [])
@@ -68,24 +67,21 @@ taken_newline held b out after holds newline wrote empty line e =
     (wrote ∙ ap (λ l. out ++ l) (answer ∙ sym is), empty ∙ ap cut (sym (cond-true (eqb b 10) [] (line ++ (b ∷ [])) t)))
 
 -- any other byte is kept
-pub taken_other : (held : List ℕ) (b : ℕ) (out holds : List ℕ) → (b ≡ 10 → ⊥) → holds ≡ cond (ltb (length held) 1048577) (held ++ (b ∷ [])) held → Taken held (b ∷ []) out out holds
+pub taken_other : (held : List ℕ) (b : ℕ) (out holds : List ℕ) → (b ≡ 10 → ⊥) → holds ≡ cond (ltb (length held) 65537) (held ++ (b ∷ [])) held → Taken held (b ∷ []) out out holds
 taken_other held b out holds other kept line e =
     let f = ne_eqb b 10 other in
     let is : printed line (b ∷ []) ≡ [] = cond-false (eqb b 10) (answer_line line ++ []) [] f in (
       sym (ap (λ l. out ++ l) is ∙ append-nil out),
       kept
-          ∙ ap (λ l. cond (ltb (length l) 1048577) (l ++ (b ∷ [])) l) e
+          ∙ ap (λ l. cond (ltb (length l) 65537) (l ++ (b ∷ [])) l) e
           ∙ cut_push line b
           ∙ ap cut (sym (cond-false (eqb b 10) [] (line ++ (b ∷ [])) f)),
     )
 
-not_empty : (held : List ℕ) (b : ℕ) (bs : List ℕ) → held ≡ b ∷ bs → length held ≡ 0 → ⊥
-not_empty held b bs e none = let n = ap length e in omega arith
-
 -- nothing is held at the end, or something
 pub ended_none : (held out : List ℕ) → length held ≡ 0 → Ended held out out
 ended_none held out h [] e = sym (append-nil out)
-ended_none held out h (b ∷ bs) e = absurd (not_empty held b (take 1048576 bs) e h)
+ended_none held out h (b ∷ bs) e = let n = ap length e in absurd (omega arith)
 
 pub ended_some : (held out after : List ℕ) → (length held ≡ 0 → ⊥) → after ≡ out ++ answer_line held → Ended held out after
 ended_some held out after h wrote [] e = let n = ap length e in absurd (h n)

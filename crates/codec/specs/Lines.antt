@@ -23,7 +23,7 @@ last_printed (b ∷ bs) = answer_line (b ∷ bs)
 
 -- what is kept of a line: one byte more than a request may have, so that its answer stays the same
 abbrev pub cut : List ℕ → List ℕ
-cut line = take 1048577 line
+cut line = take 65537 line
 
 -- bytes that are taken in, where the beginning of a line is held: the answers that are added, and what is held then
 abbrev pub Taken : List ℕ → List ℕ → List ℕ → List ℕ → List ℕ → Type 0

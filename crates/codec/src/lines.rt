@@ -6,7 +6,7 @@ use protocol::reply;
 use std::alloc::{AllocError, Global};
 
 // One byte more than a request may have: a longer line has the same answer, however it goes on.
-const MOST_KEPT: usize = 1048577;
+const MOST_KEPT: usize = 65537;
 
 // The line that has begun, as far as its answer depends on it.
 #[derive(Drop)]
@@ -47,7 +47,7 @@ impl LineBuffer {
 
     // One more byte of the line.
     fn push(&mut self, byte: u8) -> Result<(), AllocError>
-        ensures { OnOk result (self.new.line.items ≡ (if nat_lt (length self.old.line.items) 1048577 then self.old.line.items ++ (byte ∷ []) else self.old.line.items)) }
+        ensures { OnOk result (self.new.line.items ≡ (if nat_lt (length self.old.line.items) 65537 then self.old.line.items ++ (byte ∷ []) else self.old.line.items)) }
     {
         if self.line.len() < MOST_KEPT {
             self.line.push(byte)?;

@@ -1,11 +1,11 @@
 -- Addresses as words, and as they are written.
 use Rattle.std.proofs.Common.{◌≡◌, ℕ, ◌≤◌, true, List, [], ◌∷◌, ◌++◌, length, take, drop, Some, Ok, codes, decimal, sym, refl, ap, ◌∙◌, arith}
-use Rattle.std.proofs.lemmas.List.{append_assoc, length-drop, take_all}
+use Rattle.std.proofs.lemmas.List.{append_assoc, length-drop, take_all, take_at}
 use Rattle.std.proofs.lemmas.Bool.{cond-true, cond-false, and_from, and_right, eq-eqb, ne_eqb}
 use Rattle.std.specs.Result.{result_ok}
 use Rattle.std.specs.Int.Digits.{number_from_digits}
 use Rattle.std.specs.Str.{bytes_eq}
-use Rattle.wire.specs.Encoding.{room_for}
+use Rattle.wire.specs.Encoding.{told, laid, room_for}
 use Rattle.wire.specs.Words.{be, u64_at}
 use Rattle.wire.proofs.Reading.{uint_fits}
 use Rattle.wire.proofs.Writing.{roomy}
@@ -43,9 +43,16 @@ layout_long : (a : IpAddr) (mask : ℕ) → length (inet_layout a mask) ≤ 20
 layout_long (V4 a) mask = omega arith
 layout_long (V6 high low) mask = omega arith
 
--- a part of 20 bytes takes every address
-pub layout_fits : (a : IpAddr) (mask : ℕ) → room_for 20 (Ok (inet_layout a mask)) ≡ Ok (inet_layout a mask)
-layout_fits a mask = roomy 20 (inet_layout a mask) refl (layout_long a mask)
+-- a part of 20 bytes takes every address, and its beginning is what was written
+pub layout_written : (a : IpAddr) (mask : ℕ) (before after : List ℕ) (n : ℕ) → length before ≡ 20 → Ok n ≡ told (room_for (length before) (Ok (inet_layout a mask))) → after ≡ laid (room_for (length before) (Ok (inet_layout a mask))) before → take n after ≡ inet_layout a mask
+layout_written a mask before after n long answer wrote =
+    let ws = inet_layout a mask in
+    let fits = roomy (length before) ws refl (omega (arith, layout_long a mask)) in
+    let t = ap told fits in
+    let count : n ≡ length ws = cc in
+    ap (λ k. take k after) count
+    ∙ ap (take (length ws)) (wrote ∙ ap (λ e. laid e before) fits)
+    ∙ take_at ws (drop (length ws) before) (length ws) refl
 
 -- the octets of version 6 are two words
 pub v6_of : (name bs : List ℕ) (high low : ℕ) → bytes_eq name (codes "v6") ≡ true → length bs ≡ 16 → Some high ≡ result_ok (u64_at bs 0) → Some low ≡ result_ok (u64_at bs 8) → address_of name bs ≡ Some (V6 high low)

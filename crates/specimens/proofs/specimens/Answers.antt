@@ -1,10 +1,8 @@
 use Rattle.std.proofs.Common.{refl}
-use Rattle.text.specs.Recv.{character}
 use Rattle.wire.specs.Cursor.{end, more}
 use Rattle.specimens.proofs.specimens.Goals as goal
 
 pub returns : goal.returns
-unfolding character
 returns c = record {
   count = refl;
   hold = record {
@@ -24,10 +22,5 @@ returns c = record {
     range_read = refl;
     range_empty = refl;
     range_trailing = refl;
-    hstore_written = refl;
-    hstore_opened = refl;
-    hstore_entries = more refl (more refl (end refl));
-    cut_layers = refl;
-    cut_pile = refl;
   };
 }

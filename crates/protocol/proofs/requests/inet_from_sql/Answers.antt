@@ -1,7 +1,7 @@
 use Rattle.std.proofs.Common.{◌++◌, vec_items, sym, ap, ◌∙◌}
 use Rattle.inet.specs.Recv.{inet_recv}
 use Rattle.protocol.specs.Reply.{inet_answer, address_text}
-use Rattle.answers.proofs.Answering.{says, on_some}
+use Rattle.protocol.proofs.Answering.{says, on_some}
 use Rattle.protocol.proofs.requests.inet_from_sql.Goals as goal
 
 pub returns-in-Ok : goal.returns-in-Ok

@@ -2,7 +2,7 @@ use Rattle.std.proofs.Common.{vec_items, sym, ap, ◌∙◌}
 use Rattle.std.proofs.lemmas.Result.{IfOk-weaker}
 use Rattle.text.specs.Recv.{text_recv}
 use Rattle.protocol.specs.Reply.{text_answer}
-use Rattle.answers.proofs.Answering.{on_some}
+use Rattle.protocol.proofs.Answering.{on_some}
 use Rattle.protocol.proofs.requests.text_from_sql.Goals as goal
 
 pub returns-in-Ok : goal.returns-in-Ok

@@ -19,7 +19,7 @@ returns-else-byte-eq10 c =
     let out = vec_items c.args.out.now in
     IfOk-weaker
     c.push.result
-    (λ _. holds ≡ cond (ltb (length held) 1048577) (held ++ (b ∷ [])) held)
+    (λ _. holds ≡ cond (ltb (length held) 65537) (held ++ (b ∷ [])) held)
     (λ _. Taken held (b ∷ []) out out holds)
     (λ _ e. taken_other held b out holds c.if-byte-eq10.false e)
     c.push.ensures
