@@ -11,9 +11,9 @@ pub returns : goal.returns
 returns g c = λ oid.
     let is = g.S.Serializer.items c.args.serializer.now in
     let ds = c.args.dims.now in
-    let x = extent_told is c.in-ok-extent.extent c.in-ok-extent.ensures in
-    let few = (count_fits (length ds) 0 _ c.in-ok-from-usize.ensures).0 in
+    let x = extent_told is c.in_ok-extent.extent c.in_ok-extent.ensures in
+    let few = (count_fits (length ds) 0 _ c.in_ok-from_usize.ensures).0 in
     let long = length_layout ds oid (values is) in
     let wide = ap (λ y. y.bytes) x.1 in
-    let all : c.saturating-add.result ≡ min (length (array_layout ds oid (values is))) (2 ^ 64 - 1) = omega arith in
+    let all : c.saturating_add.result ≡ min (length (array_layout ds oid (values is))) (2 ^ 64 - 1) = omega arith in
     ap Ok all ∙ sym (ap counted (encoding_is ds oid is x.0 few))

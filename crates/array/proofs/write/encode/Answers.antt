@@ -12,12 +12,12 @@ use Rattle.array.proofs.Extents.{extent_told, extent_refused}
 use Rattle.array.proofs.Whole.{encoding_is, length_layout, laid_out, flag_is}
 use Rattle.array.proofs.write.encode.Goals as goal
 
-pub returns-in-err-extent : goal.returns-in-err-extent
-returns-in-err-extent g c =
+pub returns-in_err-extent : goal.returns-in_err-extent
+returns-in_err-extent g c =
     let is = g.S.Serializer.items c.args.serializer.now in
     let part = c.args.part.now in
-    let p = err_from_is_err_and c.from-residual.result c.from-residual.ensures.1 in
-    let e = extent_refused is c.in-err-extent.field-0.0 _ c.in-err-extent.ensures in
+    let p = err_from_is_err_and c.from_residual.result c.from_residual.ensures.1 in
+    let e = extent_refused is c.in_err-extent.field-0.0 _ c.in_err-extent.ensures in
     record {
       answer = p.1 ∙ ap Err p.2 ∙ sym (ap (λ x. told (room_for (length part) x)) e);
       after = sym (ap (λ x. laid (room_for (length part) x) part) e);
@@ -28,8 +28,8 @@ returns-then-part-extent g c =
     let is = g.S.Serializer.items c.args.serializer.now in
     let ds = c.args.dims.now in
     let part = c.args.part.now in
-    let x = extent_told is c.in-ok-extent.extent c.in-ok-extent.ensures in
-    let few = (count_fits (length ds) 0 _ c.in-ok-count.ensures).0 in
+    let x = extent_told is c.in_ok-extent.extent c.in_ok-extent.ensures in
+    let few = (count_fits (length ds) 0 _ c.in_ok-count.ensures).0 in
     let long = length_layout ds c.args.oid (values is) in
     let wide = ap (λ y. y.bytes) x.1 in
     let less : length part < length (array_layout ds c.args.oid (values is)) = elim c.then-part-extent.branch [ goal.then-part-extent-via-then-part-extent w ↦ omega arith | goal.then-part-extent-via-else-part-extent+then-part-extent-2 w ↦ omega arith ] in
@@ -41,17 +41,17 @@ returns g c =
     let is = g.S.Serializer.items c.args.serializer.now in
     let ds = c.args.dims.now in
     let part = c.args.part.now in
-    let x = extent_told is c.in-ok-extent.extent c.in-ok-extent.ensures in
-    let count = count_fits (length ds) 0 _ c.in-ok-count.ensures in
+    let x = extent_told is c.in_ok-extent.extent c.in_ok-extent.ensures in
+    let count = count_fits (length ds) 0 _ c.in_ok-count.ensures in
     let few = count.0 in
     let long = length_layout ds c.args.oid (values is) in
     let wide = ap (λ y. y.bytes) x.1 in
     let nulls = c.from.ensures ∙ flag_is _ ∙ ap (λ y. cond y.nulls 1 0) x.1 in
-    let fits : SFits w32 c.in-ok-count.count = search rules in
-    let same : to_z w32 (of_z w32 c.in-ok-count.count) ≡ pos (length ds) = to_z-of_z w32 c.in-ok-count.count fits ∙ count.1 in
-    let first = c.put-i32.ensures.after ∙ ap (λ z. laid_at 0 (int z) part) same in
+    let fits : SFits w32 c.in_ok-count.count = search rules in
+    let same : to_z w32 (of_z w32 c.in_ok-count.count) ≡ pos (length ds) = to_z-of_z w32 c.in_ok-count.count fits ∙ count.1 in
+    let first = c.put_i32.ensures.after ∙ ap (λ z. laid_at 0 (int z) part) same in
     let room : 12 ≤ length part = omega arith in
-    let bytes = laid_out ds c.args.oid c.from.result (values is) part room nulls first c.put-u32.ensures.after c.put-u32-2.ensures.after c.put-dimensions.ensures.after c.write-elements.ensures.after in
+    let bytes = laid_out ds c.args.oid c.from.result (values is) part room nulls first c.put_u32.ensures.after c.put_u32-2.ensures.after c.put_dimensions.ensures.after c.write_elements.ensures.after in
     let bound : length part < 2 ^ 64 = search rules in
     let e = roomy (length part) (array_layout ds c.args.oid (values is)) (encoding_is ds c.args.oid is x.0 few) (omega arith) in
-    record { answer = c.write-elements.ensures.answer ∙ ap Ok (sym long) ∙ sym (ap told e); after = bytes ∙ sym (ap (λ y. laid y part) e) }
+    record { answer = c.write_elements.ensures.answer ∙ ap Ok (sym long) ∙ sym (ap told e); after = bytes ∙ sym (ap (λ y. laid y part) e) }

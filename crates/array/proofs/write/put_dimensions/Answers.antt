@@ -11,9 +11,9 @@ loop-dim-preserved c =
     let ds = c.args.dims.now in
     let i = c.loop-dim.dim-index in
     let long = length_front ds i (omega arith) in
-    let same : c.in-ok-at.at ≡ c.loop-dim.at + 8 = let a = c.in-ok-at.ensures.answer in cc in (
+    let same : c.in_ok-at.at ≡ c.loop-dim.at + 8 = let a = c.in_ok-at.ensures.answer in cc in (
       omega arith,
-      put_on 12 _ (dimensions (take i ds)) (dimension (get_or ds i _)) c.args.part.now (omega arith) (omega arith) c.loop-dim.invariant.1 c.put-dimension.ensures.after
+      put_on 12 _ (dimensions (take i ds)) (dimension (get_or ds i _)) c.args.part.now (omega arith) (omega arith) c.loop-dim.invariant.1 c.put_dimension.ensures.after
           ∙ ap (λ ws. put 12 ws c.args.part.now) (sym (dimensions_more ds i _ c.loop-dim-test.true)),
     )
 

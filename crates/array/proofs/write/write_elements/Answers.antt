@@ -11,25 +11,25 @@ use Rattle.array.proofs.write.write_elements.Goals as goal
 pub loop-k-init : goal.loop-k-init
 loop-k-init g c = (c.requires.sound, omega arith, put_none c.args.start c.args.part.now)
 
-pub slice-bounds-write-nullable-count : goal.slice-bounds-write-nullable-count
-slice-bounds-write-nullable-count g c = let front = elements_front (g.S.Serializer.items c.args.serializer.now) c.loop-k.k in omega arith
+pub slice_bounds-write_nullable-count : goal.slice_bounds-write_nullable-count
+slice_bounds-write_nullable-count g c = let front = elements_front (g.S.Serializer.items c.args.serializer.now) c.loop-k.k in omega arith
 
-pub slice-bounds-write-nullable-start : goal.slice-bounds-write-nullable-start
-slice-bounds-write-nullable-start g c = let front = elements_front (g.S.Serializer.items c.args.serializer.now) c.loop-k.k in search rules
+pub slice_bounds-write_nullable-start : goal.slice_bounds-write_nullable-start
+slice_bounds-write_nullable-start g c = let front = elements_front (g.S.Serializer.items c.args.serializer.now) c.loop-k.k in search rules
 
-pub returns-in-err-at : goal.returns-in-err-at
-returns-in-err-at g c =
+pub returns-in_err-at : goal.returns-in_err-at
+returns-in_err-at g c =
     let is = g.S.Serializer.items c.args.serializer.now in
     let within : c.loop-k.k < length is = omega arith in
-    absurd (turn_never is c.loop-k.k within c.loop-k.invariant.0 c.args.start c.loop-k.at c.args.part.now c.loop-k.part c.requires.room c.loop-k.invariant.1 c.loop-k.auto.part _ c.in-err-at.ensures.answer)
+    absurd (turn_never is c.loop-k.k within c.loop-k.invariant.0 c.args.start c.loop-k.at c.args.part.now c.loop-k.part c.requires.room c.loop-k.invariant.1 c.loop-k.auto.part _ c.in_err-at.ensures.answer)
 
 pub loop-k-preserved : goal.loop-k-preserved
 loop-k-preserved g c =
     let is = g.S.Serializer.items c.args.serializer.now in
     let within : c.loop-k.k < length is = omega arith in (
       turn_sound is c.loop-k.k within c.loop-k.invariant.0 c.args.start c.loop-k.at c.args.part.now c.loop-k.part c.requires.room c.loop-k.invariant.1 c.loop-k.auto.part,
-      turn_place is c.loop-k.k within c.loop-k.invariant.0 c.args.start c.loop-k.at c.args.part.now c.loop-k.part c.requires.room c.loop-k.invariant.1 c.loop-k.auto.part _ c.in-ok-at.ensures.answer,
-      turn_laid is c.loop-k.k within c.loop-k.invariant.0 c.args.start c.loop-k.at c.args.part.now c.loop-k.part c.requires.room c.loop-k.invariant.1 c.loop-k.auto.part _ c.write-nullable.ensures.after c.loop-k.invariant.2,
+      turn_place is c.loop-k.k within c.loop-k.invariant.0 c.args.start c.loop-k.at c.args.part.now c.loop-k.part c.requires.room c.loop-k.invariant.1 c.loop-k.auto.part _ c.in_ok-at.ensures.answer,
+      turn_laid is c.loop-k.k within c.loop-k.invariant.0 c.args.start c.loop-k.at c.args.part.now c.loop-k.part c.requires.room c.loop-k.invariant.1 c.loop-k.auto.part _ c.write_nullable.ensures.after c.loop-k.invariant.2,
     )
 
 pub returns : goal.returns

@@ -9,19 +9,19 @@ loop-init c =
     let all : c.args.count - 0 ≡ c.args.count = omega arith in
     (omega arith, ap (λ n. product_from n c.args.buf.now 12 1) all)
 
-pub returns-in-err-product : goal.returns-in-err-product
-returns-in-err-product c =
+pub returns-in_err-product : goal.returns-in_err-product
+returns-in_err-product c =
     let left : c.args.count - c.loop.counter ≡ suc (c.args.count - (c.loop.counter + 1)) = omega arith in
-    let more = product_more (c.args.count - c.loop.counter) (c.args.count - (c.loop.counter + 1)) c.args.buf.now c.loop.at c.loop.product {r = Err c.in-err-product.field-0.0} left c.in-err-product.ensures in
-    let p = err_from_is_err_and c.from-residual.result c.from-residual.ensures.1 in
+    let more = product_more (c.args.count - c.loop.counter) (c.args.count - (c.loop.counter + 1)) c.args.buf.now c.loop.at c.loop.product {r = Err c.in_err-product.field-0.0} left c.in_err-product.ensures in
+    let p = err_from_is_err_and c.from_residual.result c.from_residual.ensures.1 in
     p.1 ∙ ap Err p.2 ∙ sym more ∙ c.loop.invariant.1
 
 pub loop-preserved : goal.loop-preserved
 loop-preserved c =
     let left : c.args.count - c.loop.counter ≡ suc (c.args.count - (c.loop.counter + 1)) = omega arith in
-    let read = c.in-ok-product.ensures in
-    let more = product_more (c.args.count - c.loop.counter) (c.args.count - (c.loop.counter + 1)) c.args.buf.now c.loop.at c.loop.product {r = Ok c.in-ok-product.product} left read in
-    ((factor_ok c.args.buf.now c.loop.at c.loop.product c.in-ok-product.product read).below, sym more ∙ c.loop.invariant.1)
+    let read = c.in_ok-product.ensures in
+    let more = product_more (c.args.count - c.loop.counter) (c.args.count - (c.loop.counter + 1)) c.args.buf.now c.loop.at c.loop.product {r = Ok c.in_ok-product.product} left read in
+    ((factor_ok c.args.buf.now c.loop.at c.loop.product c.in_ok-product.product read).below, sym more ∙ c.loop.invariant.1)
 
 pub returns : goal.returns
 returns c =

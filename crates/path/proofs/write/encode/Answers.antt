@@ -13,7 +13,7 @@ returns-then-part-points c =
     let closed = c.args.closed in
     let ps = c.args.points.now in
     let part = c.args.part.now in
-    let few = (count_fits (length ps) 0 _ c.in-ok-count.ensures).0 in
+    let few = (count_fits (length ps) 0 _ c.in_ok-count.ensures).0 in
     let less : length part < length (path_layout closed ps) = omega (arith, length_points ps) in
     let e = no_room (length part) (path_layout closed ps) (encoding_is closed ps few) less in
     record { answer = ap Err c.new.ensures ∙ sym (ap told e); after = sym (ap (λ y. laid y part) e) }
@@ -23,12 +23,12 @@ returns c =
     let closed = c.args.closed in
     let ps = c.args.points.now in
     let part = c.args.part.now in
-    let count = count_fits (length ps) 0 _ c.in-ok-count.ensures in
-    let fits : SFits w32 c.in-ok-count.count = search rules in
-    let same : to_z w32 (of_z w32 c.in-ok-count.count) ≡ pos (length ps) = to_z-of_z w32 c.in-ok-count.count fits ∙ count.1 in
-    let first = c.put-u8.ensures.after ∙ ap (λ n. laid_at 0 (be 1 n) part) c.from.ensures in
-    let second = c.put-i32.ensures.after ∙ ap (λ z. laid_at 1 (int z) c.put-u8.new.part) same in
+    let count = count_fits (length ps) 0 _ c.in_ok-count.ensures in
+    let fits : SFits w32 c.in_ok-count.count = search rules in
+    let same : to_z w32 (of_z w32 c.in_ok-count.count) ≡ pos (length ps) = to_z-of_z w32 c.in_ok-count.count fits ∙ count.1 in
+    let first = c.put_u8.ensures.after ∙ ap (λ n. laid_at 0 (be 1 n) part) c.from.ensures in
+    let second = c.put_i32.ensures.after ∙ ap (λ z. laid_at 1 (int z) c.put_u8.new.part) same in
     let long : 5 + 16 * length ps ≡ length (path_layout closed ps) = omega (arith, length_points ps) in
-    let bytes = laid_out closed ps part (omega arith) first second c.put-points.ensures.after in
+    let bytes = laid_out closed ps part (omega arith) first second c.put_points.ensures.after in
     let e = roomy (length part) (path_layout closed ps) (encoding_is closed ps count.0) (omega arith) in
-    record { answer = c.put-points.ensures.answer ∙ ap Ok long ∙ sym (ap told e); after = bytes ∙ sym (ap (λ y. laid y part) e) }
+    record { answer = c.put_points.ensures.answer ∙ ap Ok long ∙ sym (ap told e); after = bytes ∙ sym (ap (λ y. laid y part) e) }

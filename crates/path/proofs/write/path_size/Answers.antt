@@ -7,5 +7,5 @@ use Rattle.path.proofs.write.path_size.Goals as goal
 pub returns : goal.returns
 returns c = λ closed.
     let ps = c.args.points.now in
-    let few = (count_fits (length ps) 0 _ c.in-ok-from-usize.ensures).0 in
+    let few = (count_fits (length ps) 0 _ c.in_ok-from_usize.ensures).0 in
     ap Ok (omega (arith, length_points ps)) ∙ sym (ap told (encoding_is closed ps few))

@@ -12,9 +12,9 @@ loop-point-preserved c =
     let ps = c.args.points.now in
     let i = c.loop-point.point-index in
     let long = length_front ps i (omega arith) in
-    let same : c.in-ok-at.at ≡ c.loop-point.at + 16 = let a = c.in-ok-at.ensures.answer in cc in (
+    let same : c.in_ok-at.at ≡ c.loop-point.at + 16 = let a = c.in_ok-at.ensures.answer in cc in (
       omega arith,
-      put_on 5 _ (points_layout (take i ps)) (point_layout (get_or ps i _)) c.args.part.now (omega arith) (omega arith) c.loop-point.invariant.1 c.put-point.ensures.after
+      put_on 5 _ (points_layout (take i ps)) (point_layout (get_or ps i _)) c.args.part.now (omega arith) (omega arith) c.loop-point.invariant.1 c.put_point.ensures.after
           ∙ ap (λ ws. put 5 ws c.args.part.now) (sym (points_more ps i _ c.loop-point-test.true)),
     )
 

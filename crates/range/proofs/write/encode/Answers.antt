@@ -10,8 +10,8 @@ pub returns-then-part-first : goal.returns-then-part-first
 returns-then-part-first g c =
     let is = g.S.Serializer.items c.args.serializer.now in
     let part = c.args.part.now in
-    let l = measured is c.args.lower _ c.in-ok-first.ensures in
-    let u = measured is c.args.upper _ c.in-ok-second.ensures in
+    let l = measured is c.args.lower _ c.in_ok-first.ensures in
+    let u = measured is c.args.upper _ c.in_ok-second.ensures in
     let e = refused is c.args.lower c.args.upper _ _ l u part c.if-part-first.true in
     record { answer = ap Err {y = fault NoRoom 0} c.new.ensures ∙ sym (ap told e); after = sym (ap (λ y. laid y part) e) }
 
@@ -21,11 +21,11 @@ returns g c =
     let lower = c.args.lower in
     let upper = c.args.upper in
     let part = c.args.part.now in
-    let l = measured is lower _ c.in-ok-first.ensures in
-    let u = measured is upper _ c.in-ok-second.ensures in
+    let l = measured is lower _ c.in_ok-first.ensures in
+    let u = measured is upper _ c.in_ok-second.ensures in
     let room = c.if-part-first.false in
-    let place : c.in-ok-at.at ≡ 1 + length (bytes (bound_encoding is lower)) = let a = c.in-ok-at.ensures.answer in cc in
+    let place : c.in_ok-at.at ≡ 1 + length (bytes (bound_encoding is lower)) = let a = c.in_ok-at.ensures.answer in cc in
     record {
-      answer = c.write-bound-2.ensures.answer ∙ range_told is lower upper _ _ l u part _ room place;
-      after = range_laid is lower upper _ _ l u part _ _ room c.tag.ensures place c.put-u8.ensures.after c.write-bound.ensures.after c.write-bound-2.ensures.after;
+      answer = c.write_bound-2.ensures.answer ∙ range_told is lower upper _ _ l u part _ room place;
+      after = range_laid is lower upper _ _ l u part _ _ room c.tag.ensures place c.put_u8.ensures.after c.write_bound.ensures.after c.write_bound-2.ensures.after;
     }

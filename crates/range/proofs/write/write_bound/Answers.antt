@@ -16,13 +16,13 @@ returns-in-Unbounded g c =
       after = put_none at part ∙ ap (λ s. put at (bytes (bound_encoding is s)) part) (sym none);
     }
 
-pub returns-in-ok-size : goal.returns-in-ok-size
-returns-in-ok-size g c =
+pub returns-in_ok-size-in-Inclusive : goal.returns-in_ok-size-in-Inclusive
+returns-in_ok-size-in-Inclusive g c =
     let is = g.S.Serializer.items c.args.serializer.now in
     let at = c.args.at in
     let part = c.args.part.now in
     let named = c.in-Inclusive.is in
     record {
-      answer = ap (λ n. Ok (at + n)) (side_told is c.args.side _ at part named c.requires.sound c.requires.room _ c.in-ok-size.ensures.answer);
-      after = side_laid is c.args.side _ at part named c.requires.sound c.requires.room _ c.write-nullable.ensures.after;
+      answer = ap (λ n. Ok (at + n)) (side_told is c.args.side _ at part named c.requires.sound c.requires.room _ c.in_ok-size-in-Inclusive.ensures.answer);
+      after = side_laid is c.args.side _ at part named c.requires.sound c.requires.room _ c.write_nullable.ensures.after;
     }
