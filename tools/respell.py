@@ -3,7 +3,7 @@
 
 usage: tools/respell.py            at the top of the repository, once, after the kit's own scripts
 
-A name with a hyphen that a file of specs/ or proofs/ declares is respelled wherever it stands as a word of its own:
+A name with a hyphen, or one in capitals with an underscore, that a file of specs/ or proofs/ declares is respelled wherever it stands as a word of its own:
 `value-at` becomes `value_at`, `Reads-back` becomes `ReadsBack`. Left alone are the names that the prover makes (goals,
 steps of a function, arms), names that a file imports from a library, comments and texts in quotes.
 """
@@ -32,10 +32,9 @@ OTHER = {"put-mid": "put_mid_is"}
 def spelled(name):
     if name in OTHER:
         return OTHER[name]
-    parts = name.split("-")
     if name[0].isupper():
-        return "".join(p[:1].upper() + p[1:] for p in parts)
-    return "_".join(parts)
+        return "".join(p[:1].upper() + p[1:] for p in re.split("[-_]", name))
+    return name.replace("-", "_")
 
 
 def declared(text):
@@ -46,7 +45,7 @@ def declared(text):
         if line.lstrip().startswith(("--", "use ", "|", "unfolding ")):
             continue
         m = DECLARED.match(line)
-        if not m or "-" not in m.group(1) or not re.match(r"^[A-Za-z]", m.group(1)):
+        if not m or not re.match(r"^([A-Z].*[-_]|[a-z].*-)", m.group(1)):
             continue
         rest = m.group(2)
         if re.search(r":\s*(goal|given|need)\.", rest):

@@ -12,7 +12,7 @@ use Rattle.wire.proofs.Wording.{number_be, be_same, be_word}
 use Rattle.inet.specs.declared.address.Inet.{Inet}
 use Rattle.inet.specs.declared.address.IpAddr.{IpAddr}
 use Rattle.inet.specs.declared.address.IpAddr.TheVariants.{V4, V6}
-use Rattle.inet.specs.Laws.{ReadsBack, Distinct, Laid_out}
+use Rattle.inet.specs.Laws.{ReadsBack, Distinct, LaidOut}
 use Rattle.inet.specs.Layout.{Whole, widest, octets, inet_bytes, inet_layout}
 use Rattle.inet.specs.Recv.{inet, mask_of, masked, inet_recv}
 use Rattle.wire.proofs.Taking.{passed}
@@ -87,7 +87,7 @@ either : {X : Type 0} (b : Bool) (x y z : X) → z ≡ cond b x y → ((b ≡ tr
 either true x y z e = inl (refl, e)
 either false x y z e = inr (refl, e)
 
-pub laid_out : (bs : List ℕ) → Octets bs → Laid_out bs
+pub laid_out : (bs : List ℕ) → Octets bs → LaidOut bs
 laid_out bs small i e =
     let a4 = V4 (word 4 bs 4) in
     let a6 = V6 (word 8 bs 4) (word 8 bs 12) in

@@ -14,5 +14,5 @@ abbrev pub Distinct : IpAddr → ℕ → Type 0
 Distinct a mask = (b : IpAddr) (m : ℕ) → Whole b → inet_layout b m ≡ inet_layout a mask → (b ≡ a) × (m ≡ mask)
 
 -- bytes that are accepted are the layout of what is answered, but for the ignored byte
-abbrev pub Laid_out : List ℕ → Type 0
-Laid_out bs = (i : Inet) → inet_recv bs ≡ Ok i → (bs ≡ inet_bytes (slice_index bs 2) i.addr i.netmask) × (i.netmask ≤ widest i.addr) × Whole i.addr
+abbrev pub LaidOut : List ℕ → Type 0
+LaidOut bs = (i : Inet) → inet_recv bs ≡ Ok i → (bs ≡ inet_bytes (slice_index bs 2) i.addr i.netmask) × (i.netmask ≤ widest i.addr) × Whole i.addr

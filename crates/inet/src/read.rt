@@ -1,7 +1,7 @@
 //! Reading a network address.
 ghost use Rattle.std.specs.Prelude.{◌≡◌, ◌≤◌, length};
 ghost use Rattle.inet.specs.Recv.{inet_recv, mask_of};
-ghost use Rattle.inet.specs.Laws.{Laid_out};
+ghost use Rattle.inet.specs.Laws.{LaidOut};
 
 use crate::address::{Inet, IpAddr};
 use fault::{Fault, Rule};
@@ -10,7 +10,7 @@ use wire::read::{read_u32, read_u64};
 // The address and mask that the bytes are. The third byte is ignored.
 pub fn inet_from_sql(buf: &[u8]) -> Result<Inet, Fault>
     ensures answer { result ≡ inet_recv buf.now }
-    ensures layout { Laid_out buf.now }
+    ensures layout { LaidOut buf.now }
 {
     if buf.len() < 4 {
         return Err(Fault::new(Rule::Truncated, buf.len()));

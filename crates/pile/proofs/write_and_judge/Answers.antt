@@ -10,10 +10,10 @@ returns-in-Some g c =
     let part = c.args.part.now in
     let v = g.V.Validator.verdict c.args.validator.now in
     let n = c.in-Some.length in
-    let size : Ok (Some n) ≡ size_of i = sym (ap Ok c.in-Some.is) ∙ c.in-ok-size.ensures in
+    let size : Ok (Some n) ≡ size_of i = sym (ap Ok c.in-Some.is) ∙ c.in_ok-size.ensures in
     let less : n - 0 ≡ n = omega arith in
-    let w = c.in-ok-write.ensures in
+    let w = c.in_ok-write.ensures in
     record {
-      answer = item_judged v (length part) i n c.in-ok-write.field-0 part c.write.new.part c.validate.result size w.answer w.after (c.validate.ensures ∙ ap (λ m. v (take m c.write.new.part)) less);
+      answer = item_judged v (length part) i n c.in_ok-write.field-0 part c.write.new.part c.validate.result size w.answer w.after (c.validate.ensures ∙ ap (λ m. v (take m c.write.new.part)) less);
       after = w.after;
     }

@@ -12,7 +12,7 @@ returns g c =
     let v = g.V.Validator.verdict c.args.validator.now in
     let k = c.args.k in
     let room = length c.args.part.now in
-    let done = c.write-and-judge.ensures in
+    let done = c.write_and_judge.ensures in
     record {
       answer = done.answer;
       after = done.after;

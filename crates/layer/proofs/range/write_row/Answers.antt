@@ -9,6 +9,6 @@ returns-in-Bounds g c =
     let part = c.args.part.now in
     let seen = range_seen g.S.Serializer.items w.inner.now c.args.inner.now w.first w.count c.in-Bounds.lower c.in-Bounds.upper c.new-window.ensures c.numbered.ensures c.numbered-in-Bounds.ensures c.in-Bounds.is in
     record {
-      answer = c.range-to-sql.ensures.answer ∙ ap (λ e. told (room_for (length part) e)) seen;
-      after = c.range-to-sql.ensures.after ∙ ap (λ e. laid (room_for (length part) e) part) seen;
+      answer = c.range_to_sql.ensures.answer ∙ ap (λ e. told (room_for (length part) e)) seen;
+      after = c.range_to_sql.ensures.after ∙ ap (λ e. laid (room_for (length part) e) part) seen;
     }

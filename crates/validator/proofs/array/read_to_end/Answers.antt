@@ -11,10 +11,10 @@ use Rattle.validator.proofs.array.read_to_end.Goals as goal
 
 -- the value that this turn's step gave
 gave : (g : _) (c : goal.In-Some g) → (step read_nullable (values_state c.loop-value.values)).0 ≡ Ok (Some (option_map (λ x. x.now) c.in-Some.value))
-gave g c = sym c.in-ok-value.ensures.answer ∙ ap (λ o. told_value (Ok o)) c.in-Some.is
+gave g c = sym c.in_ok-value.ensures.answer ∙ ap (λ o. told_value (Ok o)) c.in-Some.is
 
-pub hand-down-requires : goal.hand-down-requires
-hand-down-requires g c =
+pub hand_down-requires : goal.hand_down-requires
+hand_down-requires g c =
     let s = values_state c.loop-value.values in
     let v = option_map (λ x. x.now) c.in-Some.value in
     let t = took read_nullable s v (gave g c) in
@@ -26,8 +26,8 @@ loop-value-preserved g c =
     let s = values_state c.loop-value.values in
     let v = option_map (λ x. x.now) c.in-Some.value in
     let visit = handed (g.V.Validator.verdict c.args.below.now) in
-    let e : (step read_nullable s).0 ≡ Ok (Some v) = sym c.in-ok-value.ensures.answer ∙ ap (λ o. told_value (Ok o)) c.in-Some.is in
+    let e : (step read_nullable s).0 ≡ Ok (Some v) = sym c.in_ok-value.ensures.answer ∙ ap (λ o. told_value (Ok o)) c.in-Some.is in
     let t = took read_nullable s v e in
-    let after = c.in-ok-value.ensures.after in
-    let passed : visit s.place v ≡ Ok tt = ap (λ at. visit at v) (sym c.loop-value.invariant.0) ∙ sym c.in-ok-hand-down.ensures in
+    let after = c.in_ok-value.ensures.after in
+    let passed : visit s.place v ≡ Ok tt = ap (λ at. visit at v) (sym c.loop-value.invariant.0) ∙ sym c.in_ok-hand_down.ensures in
     (c.place-at-in-Some.ensures, ap (λ (x : State). x.bytes) after ∙ t.bytes ∙ c.loop-value.invariant.1, c.loop-value.invariant.2 ∙ to_end_on read_nullable s v visit e ∙ ap (λ r. then r (λ _. to_end read_nullable visit (step read_nullable s).1)) passed ∙ ap (to_end read_nullable visit) (sym after))
