@@ -10,10 +10,10 @@ returns-in-Ok c =
     let i = c.in-Some.inet in
     let a = c.addr.result in
     let mask = c.netmask.result in
-    let written = layout_written a mask (replicate 20 0) c.inet-to-sql.new.part c.in-Ok.written refl c.in-Ok.ensures.answer c.inet-to-sql.ensures.after in
-    says vec_items c.print-bytes.result (wrote (Ok (take c.in-Ok.written c.inet-to-sql.new.part))) _
+    let written = layout_written a mask (replicate 20 0) c.inet_to_sql.new.part c.in-Ok.written refl c.in-Ok.ensures.answer c.inet_to_sql.ensures.after in
+    says vec_items c.print_bytes.result (wrote (Ok (take c.in-Ok.written c.inet_to_sql.new.part))) _
     (ap (λ bs. wrote (Ok bs)) written
     ∙ ap (λ b. wrote (Ok (inet_layout b mask))) c.addr.ensures
     ∙ ap (λ m. wrote (Ok (inet_layout i.addr m))) c.netmask.ensures
-    ∙ ap (on_inet (λ j. wrote (Ok (inet_layout j.addr j.netmask)))) (sym c.in-Some.is ∙ c.in-ok-inet.ensures))
-    c.print-bytes.ensures
+    ∙ ap (on_inet (λ j. wrote (Ok (inet_layout j.addr j.netmask)))) (sym c.in-Some.is ∙ c.in_ok-inet.ensures))
+    c.print_bytes.ensures

@@ -7,11 +7,11 @@ use Rattle.listing.proofs.words.OptionI32FromWord.from_word.Goals as goal
 
 pub returns : goal.returns
 returns c =
-    let z = c.in-ok-parse-signed.field-0 in
-    let small = signed_small 31 c.args.word.now z c.in-ok-parse-signed.ensures in
+    let z = c.in_ok-parse_signed.field-0 in
+    let small = signed_small 31 c.args.word.now z c.in_ok-parse_signed.ensures in
     let narrow : SFits w32 z = record { sfits = small } in
     let wide : SFits w64 z = record { sfits = omega arith } in
     ap (λ y. Some (Some (to_z w32 (of_z w32 y)))) (to_z-of_z w64 z wide)
     ∙ ap (λ y. Some (Some y)) (to_z-of_z w32 z narrow)
-    ∙ ap (option_map Some) c.in-ok-parse-signed.ensures
+    ∙ ap (option_map Some) c.in_ok-parse_signed.ensures
     ∙ sym (cond-false _ _ _ (sym c.if-same.ensures))
