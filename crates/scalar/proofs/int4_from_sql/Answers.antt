@@ -4,4 +4,4 @@ use Rattle.scalar.proofs.Exact.{exactly}
 use Rattle.scalar.proofs.int4_from_sql.Goals as goal
 
 pub returns : goal.returns
-returns c = let bs = c.args.buf.now in record { answer = search rules; exactly = exactly w32 4 refl bs (octets_typed bs c.type-inv.buf) }
+returns c = let bs = c.args.buf.now in record { answer = search rules; exactly = exactly w32 4 refl bs (octets_typed bs c.type_inv.buf) }

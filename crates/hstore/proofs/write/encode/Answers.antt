@@ -13,10 +13,10 @@ use Rattle.hstore.proofs.Texts.{entries_are, all_named, same_layout}
 use Rattle.hstore.proofs.Writes.{encoding_is, laid_out}
 use Rattle.hstore.proofs.write.encode.Goals as goal
 
-pub write-entries-requires : goal.write-entries-requires
-write-entries-requires c =
+pub write_entries-requires : goal.write_entries-requires
+write_entries-requires c =
     let part = c.args.part.now in
-    let t = sized _ c.in-ok-bytes.bytes c.in-ok-bytes.ensures in
+    let t = sized _ c.in_ok-bytes.bytes c.in_ok-bytes.ensures in
     let told = entries_are (pool_pair c.args.pools) 0 c.args.entries.now t.0 t.1 in
     let bound : length part < 2 ^ 64 = search rules in
     record { texts = all_named told; room = omega (arith, ap length (same_layout told)) }
@@ -26,14 +26,14 @@ returns c =
     let ps = pool_pair c.args.pools in
     let es = c.args.entries.now in
     let part = c.args.part.now in
-    let count = count_fits (length es) 0 _ c.in-ok-count.ensures in
-    let t = sized (entry_texts ps 0 es) c.in-ok-bytes.bytes c.in-ok-bytes.ensures in
+    let count = count_fits (length es) 0 _ c.in_ok-count.ensures in
+    let t = sized (entry_texts ps 0 es) c.in_ok-bytes.bytes c.in_ok-bytes.ensures in
     let told = entries_are ps 0 es t.0 t.1 in
-    let fits : SFits w32 c.in-ok-count.count = search rules in
-    let same : to_z w32 (of_z w32 c.in-ok-count.count) ≡ pos (length es) = to_z-of_z w32 c.in-ok-count.count fits ∙ count.1 in
-    let first = c.put-i32.ensures.after ∙ ap (λ z. laid_at 0 (int z) part) same in
-    let bytes = laid_out ps es t.0 part told (omega arith) first c.write-entries.ensures.after in
+    let fits : SFits w32 c.in_ok-count.count = search rules in
+    let same : to_z w32 (of_z w32 c.in_ok-count.count) ≡ pos (length es) = to_z-of_z w32 c.in_ok-count.count fits ∙ count.1 in
+    let first = c.put_i32.ensures.after ∙ ap (λ z. laid_at 0 (int z) part) same in
+    let bytes = laid_out ps es t.0 part told (omega arith) first c.write_entries.ensures.after in
     let bound : length part < 2 ^ 64 = search rules in
-    let e = roomy (length part) (hstore_layout t.0) (encoding_is ps es t.0 c.in-ok-test-keys.ensures t.1 count.0) (omega arith) in
+    let e = roomy (length part) (hstore_layout t.0) (encoding_is ps es t.0 c.in_ok-test_keys.ensures t.1 count.0) (omega arith) in
     let long : 4 + length (flat_map (places_layout ps) es) ≡ length (hstore_layout t.0) = omega (arith, ap length (same_layout told)) in
-    record { answer = c.write-entries.ensures.answer ∙ ap Ok long ∙ sym (ap told_of e); after = bytes ∙ sym (ap (λ y. laid y part) e) }
+    record { answer = c.write_entries.ensures.answer ∙ ap Ok long ∙ sym (ap told_of e); after = bytes ∙ sym (ap (λ y. laid y part) e) }

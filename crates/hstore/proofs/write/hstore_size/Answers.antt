@@ -10,6 +10,6 @@ pub returns : goal.returns
 returns c =
     let ps = pool_pair c.args.pools in
     let es = c.args.entries.now in
-    let few = (count_fits (length es) 0 _ c.in-ok-from-usize.ensures).0 in
-    let t = sized (entry_texts ps 0 es) c.in-ok-bytes.bytes c.in-ok-bytes.ensures in
-    ap Ok (omega arith) ∙ sym (ap counted (encoding_is ps es t.0 c.in-ok-test-keys.ensures t.1 few))
+    let few = (count_fits (length es) 0 _ c.in_ok-from_usize.ensures).0 in
+    let t = sized (entry_texts ps 0 es) c.in_ok-bytes.bytes c.in_ok-bytes.ensures in
+    ap Ok (omega arith) ∙ sym (ap counted (encoding_is ps es t.0 c.in_ok-test_keys.ensures t.1 few))

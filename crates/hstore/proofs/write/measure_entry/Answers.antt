@@ -9,10 +9,10 @@ pub returns-in-Some-2 : goal.returns-in-Some-2
 returns-in-Some-2 c =
     ap Ok (simp length-append (omega arith))
     ∙ entry_sized (pool_pair c.args.pools) c.args.k c.args.entry c.in-Some.key.now (Some c.in-Some-2.value.now)
-    c.in-ok-key.ensures (ap (option_map (λ x. x.now)) c.in-Some.is) c.in-ok-value.ensures (ap (option_map (λ x. x.now)) c.in-Some-2.is)
+    c.in_ok-key.ensures (ap (option_map (λ x. x.now)) c.in-Some.is) c.in_ok-value.ensures (ap (option_map (λ x. x.now)) c.in-Some-2.is)
 
 pub returns-in-None : goal.returns-in-None
 returns-in-None c =
     ap Ok (simp length-append (omega arith))
     ∙ entry_sized (pool_pair c.args.pools) c.args.k c.args.entry c.in-Some.key.now None
-    c.in-ok-key.ensures (ap (option_map (λ x. x.now)) c.in-Some.is) c.in-ok-value.ensures (ap (option_map (λ x. x.now)) c.in-None.is)
+    c.in_ok-key.ensures (ap (option_map (λ x. x.now)) c.in-Some.is) c.in_ok-value.ensures (ap (option_map (λ x. x.now)) c.in-None.is)

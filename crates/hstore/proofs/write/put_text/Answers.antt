@@ -13,21 +13,21 @@ use Rattle.hstore.proofs.write.put_text.Goals as goal
 pub returns : goal.returns
 returns c =
     let at = c.args.at in
-    let to = c.in-ok-at.at in
+    let to = c.in_ok-at.at in
     let part = c.args.part.now in
     let text = c.in-Some.text.now in
     let word = be 4 (length text) in
     let ps = pool_pair c.args.pools in
     let is : place_value ps c.args.place ≡ Some text = ap (place_value ps) c.in-At.is ∙ sym c.in-Some.ensures in
     let room : at + length (word ++ text) ≤ length part = subst (λ v. at + length (nullable v) ≤ length part) is c.requires.room in
-    let z = c.in-ok-from-usize.field-0 in
+    let z = c.in_ok-from_usize.field-0 in
     let fits : SFits w32 z = search rules in
-    let same : to_z w32 (of_z w32 z) ≡ pos (length text) = to_z-of_z w32 z fits ∙ (count_fits (length text) 0 z c.in-ok-from-usize.ensures).1 in
-    let first = c.put-i32-2.ensures.after ∙ ap (λ z. laid_at at (int z) part) same ∙ laid_fits at word part (omega arith) in
-    let told = c.put-i32-2.ensures.answer ∙ ap (λ z. told_at at (int z) part) same ∙ told_fits at word part (omega arith) in
-    let place : to ≡ at + 4 = let was = c.in-ok-at.was in cc in
+    let same : to_z w32 (of_z w32 z) ≡ pos (length text) = to_z-of_z w32 z fits ∙ (count_fits (length text) 0 z c.in_ok-from_usize.ensures).1 in
+    let first = c.put_i32-2.ensures.after ∙ ap (λ z. laid_at at (int z) part) same ∙ laid_fits at word part (omega arith) in
+    let told = c.put_i32-2.ensures.answer ∙ ap (λ z. told_at at (int z) part) same ∙ told_fits at word part (omega arith) in
+    let place : to ≡ at + 4 = let was = c.in_ok-at.was in cc in
     let end : to + length text ≡ at + length (word ++ text) = omega arith in
     record {
-      answer = c.put-bytes.ensures.answer ∙ told_on at to word text part _ (omega arith) place first ∙ ap Ok end ∙ ap (λ v. Ok (at + length (nullable v))) (sym is);
-      after = c.put-bytes.ensures.after ∙ laid_on at to word text part _ (omega arith) place first ∙ ap (λ v. put at (nullable v) part) (sym is);
+      answer = c.put_bytes.ensures.answer ∙ told_on at to word text part _ (omega arith) place first ∙ ap Ok end ∙ ap (λ v. Ok (at + length (nullable v))) (sym is);
+      after = c.put_bytes.ensures.after ∙ laid_on at to word text part _ (omega arith) place first ∙ ap (λ v. put at (nullable v) part) (sym is);
     }

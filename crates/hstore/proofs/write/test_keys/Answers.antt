@@ -14,7 +14,7 @@ pub loop-k-preserved : goal.loop-k-preserved
 loop-k-preserved c =
     let es = c.args.entries.now in
     let k = c.loop-k.k in
-    let here = at_drop_more (keys_there k) es k _ c.loop-k-test.true ∙ ap (λ p. there k p (keys_there (k + 1) (drop (k + 1) es))) c.in-default.is in
+    let here = at_drop_more (keys_there k) es k _ c.loop-k-test.true ∙ ap (λ p. there k p (keys_there (k + 1) (drop (k + 1) es))) c.in_default.is in
     sym here ∙ c.loop-k.invariant
 
 pub returns : goal.returns

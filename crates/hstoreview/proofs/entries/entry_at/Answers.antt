@@ -6,14 +6,14 @@ use Rattle.hstore.proofs.Forms.{entry_by}
 use Rattle.hstoreview.proofs.Parts.{key_text, value_null, value_text}
 use Rattle.hstoreview.proofs.entries.entry_at.Goals as goal
 
-pub returns-in-ok-value-2 : goal.returns-in-ok-value-2
-returns-in-ok-value-2 c =
+pub returns-in_ok-value-in-Some-2 : goal.returns-in_ok-value-in-Some-2
+returns-in_ok-value-in-Some-2 c =
     let bs = c.args.buf.now in
     let at = c.args.at in
-    let key = c.in-ok-key-2.key.now in
-    let value = c.in-ok-value-2.value.now in
-    let key_is = key_text bs at c.in-ok-key.ensures _ key (ap (option_map (λ x. x.now)) c.in-Some.is) c.in-ok-key-2.ensures in
-    let value_is = value_text bs (at + 4 + length key) c.in-ok-value.ensures _ value (ap (option_map (λ x. x.now)) c.in-Some-2.is) c.in-ok-value-2.ensures in
+    let key = c.in_ok-key-2.key.now in
+    let value = c.in_ok-value-in-Some-2.value.now in
+    let key_is = key_text bs at c.in_ok-key.ensures _ key (ap (option_map (λ x. x.now)) c.in-Some.is) c.in_ok-key-2.ensures in
+    let value_is = value_text bs (at + 4 + length key) c.in_ok-value.ensures _ value (ap (option_map (λ x. x.now)) c.in-Some-2.is) c.in_ok-value-in-Some-2.ensures in
     let size : at + 4 + length key + 4 + length value - at ≡ length (entry_layout (key, Some value)) = simp length-append (omega arith) in
     ap (λ n. Ok ((key, Some value), n)) size ∙ sym (entry_by bs at (key, Some value) key_is value_is)
 
@@ -21,8 +21,8 @@ pub returns-in-None : goal.returns-in-None
 returns-in-None c =
     let bs = c.args.buf.now in
     let at = c.args.at in
-    let key = c.in-ok-key-2.key.now in
-    let key_is = key_text bs at c.in-ok-key.ensures _ key (ap (option_map (λ x. x.now)) c.in-Some.is) c.in-ok-key-2.ensures in
-    let value_is = value_null bs (at + 4 + length key) c.in-ok-value.ensures (ap (option_map (λ x. x.now)) c.in-None.is) in
+    let key = c.in_ok-key-2.key.now in
+    let key_is = key_text bs at c.in_ok-key.ensures _ key (ap (option_map (λ x. x.now)) c.in-Some.is) c.in_ok-key-2.ensures in
+    let value_is = value_null bs (at + 4 + length key) c.in_ok-value.ensures (ap (option_map (λ x. x.now)) c.in-None.is) in
     let size : at + 4 + length key + 4 - at ≡ length (entry_layout (key, None)) = simp length-append (omega arith) in
     ap (λ n. Ok ((key, None), n)) size ∙ sym (entry_by bs at (key, None) key_is value_is)
