@@ -5,6 +5,6 @@ use Rattle.agreement.proofs.read.Goals as goal
 
 pub returns : goal.returns
 returns c = record {
-  answer = c.record-from-sql.ensures.answer ∙ ap record_recv c.bytes.ensures;
+  answer = c.record_from_sql.ensures.answer ∙ ap record_recv c.bytes.ensures;
   book = book_kept c.args.sheet.now c.args.buffer.now;
 }

@@ -11,10 +11,10 @@ returns g c =
     let b = c.args.buffer.now in
     let at = c.args.at in
     let oid = c.args.oid in
-    let told = c.in-ok-at.ensures.answer ∙ told_fits at (be 4 oid) b (omega (arith, c.requires.room)) in
-    let place : c.in-ok-at.at ≡ at + 4 = cc in
-    let head = c.in-ok-at.ensures.after in
+    let told = c.in_ok-at.ensures.answer ∙ told_fits at (be 4 oid) b (omega (arith, c.requires.room)) in
+    let place : c.in_ok-at.at ≡ at + 4 = cc in
+    let head = c.in_ok-at.ensures.after in
     record {
-      answer = ap Ok (column_told i at c.in-ok-at.at oid b c.put-u32.new.part c.write-nullable.new.part c.requires.sound c.requires.room head place c.in-ok-size.size c.in-ok-size.ensures.answer);
-      after = column_laid i at c.in-ok-at.at oid b c.put-u32.new.part c.write-nullable.new.part c.requires.sound c.requires.room head place c.in-ok-size.ensures.after;
+      answer = ap Ok (column_told i at c.in_ok-at.at oid b c.put_u32.new.part c.write_nullable.new.part c.requires.sound c.requires.room head place c.in_ok-size.size c.in_ok-size.ensures.answer);
+      after = column_laid i at c.in_ok-at.at oid b c.put_u32.new.part c.write_nullable.new.part c.requires.sound c.requires.room head place c.in_ok-size.ensures.after;
     }

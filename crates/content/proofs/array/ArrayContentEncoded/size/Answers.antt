@@ -7,4 +7,4 @@ pub returns : goal.returns
 returns g c =
     let a = c.args.self.now in
     let is = g.S.Serializer.items a.serializer.now in
-    c.array-size.ensures a.oid ∙ sym (ap counted (content_fits a.oid c.count.result a.dims.now is c.count.ensures c.in-ok-check-dimensions.ensures))
+    c.array_size.ensures a.oid ∙ sym (ap counted (content_fits a.oid c.count.result a.dims.now is c.count.ensures c.in_ok-check_dimensions.ensures))

@@ -10,6 +10,6 @@ returns c =
     let part = c.args.part.now in
     let e : point c.x.result c.y.result ≡ p = ap (λ x. point x c.y.result) c.x.ensures ∙ ap (λ y. point p.x y) c.y.ensures in
     record {
-      answer = c.point-to-sql.ensures.answer ∙ ap (λ q. told (room_for (length part) (Ok (point_layout q)))) e;
-      after = c.point-to-sql.ensures.after ∙ ap (λ q. laid (room_for (length part) (Ok (point_layout q))) part) e;
+      answer = c.point_to_sql.ensures.answer ∙ ap (λ q. told (room_for (length part) (Ok (point_layout q)))) e;
+      after = c.point_to_sql.ensures.after ∙ ap (λ q. laid (room_for (length part) (Ok (point_layout q))) part) e;
     }

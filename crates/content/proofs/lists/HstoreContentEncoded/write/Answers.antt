@@ -10,6 +10,6 @@ returns c =
     let part = c.args.part.now in
     let e = hstore_is (pool_pair h.pools) h.entries.now in
     record {
-      answer = c.hstore-to-sql.ensures.answer ∙ sym (ap (λ x. told (room_for (length part) x)) e);
-      after = c.hstore-to-sql.ensures.after ∙ sym (ap (λ x. laid (room_for (length part) x) part) e);
+      answer = c.hstore_to_sql.ensures.answer ∙ sym (ap (λ x. told (room_for (length part) x)) e);
+      after = c.hstore_to_sql.ensures.after ∙ sym (ap (λ x. laid (room_for (length part) x) part) e);
     }
