@@ -8,7 +8,7 @@ ghost use Rattle.shapeline.specs.Words.{point_text, point_in};
 use answers::parts::Parts;
 use double::point::Point;
 use fault::Fault;
-use listing::list::Notation;
+use notation::list::Notation;
 use path::points::PathPoints;
 use shapeline::words::{parse_point, push_point};
 use std::alloc::{AllocError, Global};

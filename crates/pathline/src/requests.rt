@@ -10,7 +10,7 @@ use crate::points::{PointNotation, PointTexts};
 use answers::parts::push_parts;
 use answers::plain::{bad_request, push_flag, refusal};
 use answers::written::{blank_part, print_written};
-use listing::list::parse_list;
+use notation::list::parse_list;
 use path::read::Path;
 use std::alloc::{AllocError, Global};
 use syntax::compare::same;
