@@ -13,9 +13,9 @@ returns g c =
     let items = g.S.Serializer.items c.args.serializer.now in
     let v = g.V.Validator.verdict c.args.validator.now in
     record {
-      same = c.same-bytes-same.ensures.answer;
-      item = c.write-judged.ensures.answer;
-      after = c.write-judged.ensures.after;
+      same = c.same_bytes-same.ensures.answer;
+      item = c.write_judged.ensures.answer;
+      after = c.write_judged.ensures.after;
       one_result = record {
         ours = book_kept s b;
         theirs = book_kept t d;

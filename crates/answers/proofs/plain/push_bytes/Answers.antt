@@ -7,7 +7,7 @@ use Rattle.answers.proofs.plain.push_bytes.Goals as goal
 pub returns : goal.returns
 returns c =
     let bs = c.args.bytes.now in
-    behind c.push-hex.result (120 ∷ []) (vec_items c.args.out.now) (vec_items c.push.new.self) (vec_items c.push-hex.new.out) (hex bs) (byte_string bs)
-    (pushed (120 ∷ []) refl c.in-ok-push.was c.push.ensures.items)
+    behind c.push_hex.result (120 ∷ []) (vec_items c.args.out.now) (vec_items c.push.new.self) (vec_items c.push_hex.new.out) (hex bs) (byte_string bs)
+    (pushed (120 ∷ []) refl c.in_ok-push.was c.push.ensures.items)
     refl
-    c.push-hex.ensures.added
+    c.push_hex.ensures.added

@@ -8,7 +8,7 @@ use Rattle.answers.proofs.plain.push_failure.Goals as goal
 pub returns : goal.returns
 returns c =
     let f = c.args.fault in
-    behind c.push-fault.result (33 ∷ []) (vec_items c.args.out.now) (vec_items c.push.new.self) (vec_items c.push-fault.new.out) (fault_text f) (failure f)
-    (pushed (33 ∷ []) refl c.in-ok-push.was c.push.ensures.items)
+    behind c.push_fault.result (33 ∷ []) (vec_items c.args.out.now) (vec_items c.push.new.self) (vec_items c.push_fault.new.out) (fault_text f) (failure f)
+    (pushed (33 ∷ []) refl c.in_ok-push.was c.push.ensures.items)
     refl
-    c.push-fault.ensures
+    c.push_fault.ensures

@@ -6,6 +6,6 @@ use Rattle.answers.proofs.written.print_written.Goals as goal
 pub returns-in-Ok : goal.returns-in-Ok
 returns-in-Ok c =
     let part = c.args.part.now in
-    says vec_items c.print-bytes.result _ _
+    says vec_items c.print_bytes.result _ _
     (ap (λ n. wrote (Ok (take n part))) c.min.ensures ∙ ap (λ bs. wrote (Ok bs)) (take_min c.in-Ok.n part) ∙ ap (λ w. wrote (held w part)) (sym c.in-Ok.is))
-    c.print-bytes.ensures
+    c.print_bytes.ensures
