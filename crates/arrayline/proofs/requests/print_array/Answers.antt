@@ -11,16 +11,16 @@ use Rattle.arrayline.proofs.requests.print_array.Goals as goal
 
 pub returns : goal.returns
 returns c =
-    let nulls = c.has-nulls.result in
+    let nulls = c.has_nulls.result in
     let oid = c.from.result in
     let ds = dimensions_state c.dimensions.result in
     let vs = values_state c.values.result in
-    let flag = c.in-ok-push-flag.ensures ∙ ap (λ l. l ++ flag_text nulls) c.in-ok-out.ensures.items in
-    let named = pushed (codes " oid=") flag c.in-ok-extend-from-slice.was c.extend-from-slice.ensures.items in
-    let typed = c.in-ok-push-decimal.ensures ∙ ap (λ l. l ++ decimal oid) named in
-    let headed = pushed (codes " dims=") typed c.in-ok-extend-from-slice-2.was c.extend-from-slice-2.ensures.items in
-    let sized = c.in-ok-push-parts.ensures ∙ ap (λ l. l ++ parts_text (texts_of dimension_text read_dimension) ds) headed in
-    let begun = pushed (codes " values=") sized c.in-ok-extend-from-slice-3.was c.extend-from-slice-3.ensures.items in
-    c.in-ok-push-parts-2.ensures
+    let flag = c.in_ok-push_flag.ensures ∙ ap (λ l. l ++ flag_text nulls) c.in_ok-out.ensures.items in
+    let named = pushed (codes " oid=") flag c.in_ok-extend_from_slice.was c.extend_from_slice.ensures.items in
+    let typed = c.in_ok-push_decimal.ensures ∙ ap (λ l. l ++ decimal oid) named in
+    let headed = pushed (codes " dims=") typed c.in_ok-extend_from_slice-2.was c.extend_from_slice-2.ensures.items in
+    let sized = c.in_ok-push_parts.ensures ∙ ap (λ l. l ++ parts_text (texts_of dimension_text read_dimension) ds) headed in
+    let begun = pushed (codes " values=") sized c.in_ok-extend_from_slice-3.was c.extend_from_slice-3.ensures.items in
+    c.in_ok-push_parts-2.ensures
     ∙ ap (λ l. l ++ parts_text (texts_of value_text read_nullable) vs) begun
-    ∙ array_parts (opened c.args.array.now) nulls oid ds vs c.has-nulls.ensures (c.from.ensures ∙ c.element-type.ensures) c.dimensions.ensures c.values.ensures
+    ∙ array_parts (opened c.args.array.now) nulls oid ds vs c.has_nulls.ensures (c.from.ensures ∙ c.element_type.ensures) c.dimensions.ensures c.values.ensures

@@ -6,6 +6,6 @@ use Rattle.notation.proofs.requests.element_list.Goals as goal
 
 pub returns-else-same-2 : goal.returns-else-same-2
 returns-else-same-2 c =
-    IfOk-weaker c.bad-request-else-same-2.result _ _
+    IfOk-weaker c.bad_request-else-same-2.result _ _
     (λ v p. p ∙ sym (ap element_list_answer (sym c.in-Some.ensures) ∙ cond-false _ _ _ (sym c.if-same.ensures) ∙ cond-false _ _ _ (sym c.if-same-2.ensures)))
-    c.bad-request-else-same-2.ensures
+    c.bad_request-else-same-2.ensures

@@ -12,7 +12,7 @@ returns c kind =
     let slots = vec_items v in
     let slot = c.in-Some.slot in
     let k = c.len-k.result in
-    ap (λ l. Some (map slot_item l, kind k)) (pushed (slot ∷ []) refl c.in-ok-push.was c.push.ensures.items)
+    ap (λ l. Some (map slot_item l, kind k)) (pushed (slot ∷ []) refl c.in_ok-push.was c.push.ensures.items)
     ∙ ap (λ l. Some (l, kind k)) (map_push slot_item slots slot)
     ∙ ap (λ n. with_item (λ _. kind n) (map slot_item slots) (Some (slot_item slot))) (c.len-k.ensures ∙ v.ok.0 ∙ sym (length-map slots slot_item))
-    ∙ ap (with_item kind (map slot_item slots)) (sym (ap (option_map slot_item) c.in-Some.is) ∙ c.in-ok-slot.ensures)
+    ∙ ap (with_item kind (map slot_item slots)) (sym (ap (option_map slot_item) c.in-Some.is) ∙ c.in_ok-slot.ensures)

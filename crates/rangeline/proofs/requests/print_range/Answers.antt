@@ -6,12 +6,8 @@ use Rattle.range.specs.Recv.{seen_bound, seen_range}
 use Rattle.rangeline.specs.Ranges.{bound_text, range_text}
 use Rattle.rangeline.proofs.requests.print_range.Goals as goal
 
-pub returns-in-Empty : goal.returns-in-Empty
-returns-in-Empty c =
-    IfOk-weaker c.from-slice.result _ _ (λ v p. p.0 ∙ ap (λ r. range_text (seen_range r)) (sym c.in-Empty.is)) c.from-slice.ensures.made
-
-pub returns-in-ok-push-bound-2 : goal.returns-in-ok-push-bound-2
-returns-in-ok-push-bound-2 c =
+pub returns-in_ok-push_bound-in-Nonempty-2 : goal.returns-in_ok-push_bound-in-Nonempty-2
+returns-in_ok-push_bound-in-Nonempty-2 c =
     let lower = bound_text (seen_bound c.in-Nonempty.lower) in
     let upper = bound_text (seen_bound c.in-Nonempty.upper) in
     let first = c.in-ok-push-bound.ensures ∙ ap (λ l. l ++ lower) c.in-ok-out.ensures.items in

@@ -7,7 +7,7 @@ use Rattle.rangeline.proofs.requests.range_to_sql.Goals as goal
 pub returns : goal.returns
 returns c =
     let n = room (length c.args.argument.now) in
-    says vec_items c.write-range.result _ _
-    (ap (λ m. lower_in m c.in-Some.upper.now (bound_in [] c.in-Some.lower.now)) c.in-ok-part.ensures
+    says vec_items c.write_range.result _ _
+    (ap (λ m. lower_in m c.in-Some.upper.now (bound_in [] c.in-Some.lower.now)) c.in_ok-part.ensures
     ∙ ap (range_words n) c.in-Some.ensures)
-    c.write-range.ensures
+    c.write_range.ensures

@@ -14,16 +14,16 @@ returns c =
     let n = length (vec_items c.args.part) in
     let lower = c.in-Some.lower in
     let upper = c.in-Some-2.upper in
-    let first = map slot_item (vec_items c.parse-bound.new.slots) in
-    let is = map slot_item (vec_items c.parse-bound-2.new.slots) in
-    let lower-is : Some (first, lower) ≡ bound_in [] c.args.lower.now = sym (ap (option_map (λ b. (first, b))) c.in-Some.is) ∙ c.in-ok-lower.ensures ∙ ap (λ l. bound_in (map slot_item l) c.args.lower.now) c.new-slots.ensures.items in
-    let upper_is : Some (is, upper) ≡ bound_in first c.args.upper.now = sym (ap (option_map (λ b. (is, b))) c.in-Some-2.is) ∙ c.in-ok-upper.ensures in
-    let before = c.deref-mut.result.now in
-    let held_bytes : c.deref.result.now ≡ c.range-to-sql-written.new.part = search (rules, with_items_is) in
+    let first = map slot_item (vec_items c.parse_bound.new.slots) in
+    let is = map slot_item (vec_items c.parse_bound-2.new.slots) in
+    let lower-is : Some (first, lower) ≡ bound_in [] c.args.lower.now = sym (ap (option_map (λ b. (first, b))) c.in-Some.is) ∙ c.in_ok-lower.ensures ∙ ap (λ l. bound_in (map slot_item l) c.args.lower.now) c.new-slots.ensures.items in
+    let upper_is : Some (is, upper) ≡ bound_in first c.args.upper.now = sym (ap (option_map (λ b. (is, b))) c.in-Some-2.is) ∙ c.in_ok-upper.ensures in
+    let before = c.deref_mut.result.now in
+    let held_bytes : c.deref.result.now ≡ c.range_to_sql-written.new.part = search (rules, with_items_is) in
     let e : Encoding = room_for (length before) (range_encoding is lower upper) in
-    says vec_items c.print-written.result _ _
-    (ap wrote (written_is e before c.range-to-sql-written.ensures.answer (held_bytes ∙ c.range-to-sql-written.ensures.after))
-    ∙ ap (λ l. wrote (room_for (length l) (range_encoding is lower upper))) c.deref-mut.ensures.value
+    says vec_items c.print_written.result _ _
+    (ap wrote (written_is e before c.range_to_sql-written.ensures.answer (held_bytes ∙ c.range_to_sql-written.ensures.after))
+    ∙ ap (λ l. wrote (room_for (length l) (range_encoding is lower upper))) c.deref_mut.ensures.value
     ∙ ap (both_in n lower) upper_is
     ∙ ap (lower_in n c.args.upper.now) lower-is)
-    c.print-written.ensures
+    c.print_written.ensures

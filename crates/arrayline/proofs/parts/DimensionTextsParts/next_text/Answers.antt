@@ -6,12 +6,12 @@ use Rattle.wire.specs.Cursor.{step}
 use Rattle.arrayline.specs.Arrays.{dimension_text}
 use Rattle.arrayline.proofs.parts.DimensionTextsParts.next_text.Goals as goal
 
-pub returns-in-ok-print-dimension : goal.returns-in-ok-print-dimension
-returns-in-ok-print-dimension c =
+pub returns-in_ok-print_dimension-in-Ok-Some : goal.returns-in_ok-print_dimension-in-Ok-Some
+returns-in_ok-print_dimension-in-Ok-Some c =
     let s = dimensions_state c.args.self.now.cursor in
     let told = c.in-Ok-Some.ensures.answer in
     let is : Ok (Some c.in-Ok-Some.dimension) ≡ (step read_dimension s).0 = cc in
-    shows dimension_text read_dimension s _ _ _ is c.next.ensures.after (ap (λ l. Ok (Some l)) c.in-ok-print-dimension.ensures)
+    shows dimension_text read_dimension s _ _ _ is c.next.ensures.after (ap (λ l. Ok (Some l)) c.in_ok-print_dimension-in-Ok-Some.ensures)
 
 pub returns-in-Ok-None : goal.returns-in-Ok-None
 returns-in-Ok-None c =

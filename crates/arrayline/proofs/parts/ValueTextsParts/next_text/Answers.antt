@@ -5,12 +5,12 @@ use Rattle.arrayview.specs.Views.{values_state}
 use Rattle.wire.specs.Cursor.{read_nullable, step}
 use Rattle.arrayline.proofs.parts.ValueTextsParts.next_text.Goals as goal
 
-pub returns-in-ok-print-value : goal.returns-in-ok-print-value
-returns-in-ok-print-value c =
+pub returns-in_ok-print_value-in-Ok-Some : goal.returns-in_ok-print_value-in-Ok-Some
+returns-in_ok-print_value-in-Ok-Some c =
     let s = values_state c.args.self.now.cursor in
     let told = c.in-Ok-Some.ensures.answer in
     let is : Ok (Some (seen_value c.in-Ok-Some.value)) ≡ (step read_nullable s).0 = search rules in
-    shows value_text read_nullable s _ (Ok (Some (seen_value c.in-Ok-Some.value))) _ is c.next.ensures.after (ap (λ l. Ok (Some l)) c.in-ok-print-value.ensures)
+    shows value_text read_nullable s _ (Ok (Some (seen_value c.in-Ok-Some.value))) _ is c.next.ensures.after (ap (λ l. Ok (Some l)) c.in_ok-print_value-in-Ok-Some.ensures)
 
 pub returns-in-Ok-None : goal.returns-in-Ok-None
 returns-in-Ok-None c =

@@ -10,4 +10,4 @@ returns-in-None c =
 pub returns-in-Some : goal.returns-in-Some
 returns-in-Some c =
     let finds = c.in-Some.ensures.lookup in
-    c.slot-size.ensures ∙ sym (ap size_of (item_here c.deref.result.now (vec_items c.args.self.now.slots) c.args.k c.deref.ensures.value c.in-Some.slot.now finds.3.0 finds.1))
+    c.slot_size.ensures ∙ sym (ap size_of (item_here c.deref.result.now (vec_items c.args.self.now.slots) c.args.k c.deref.ensures.value c.in-Some.slot.now finds.3.0 finds.1))

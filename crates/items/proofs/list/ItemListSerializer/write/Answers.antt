@@ -18,6 +18,6 @@ returns-in-Some c =
     let finds = c.in-Some.ensures.lookup in
     let here = item_here c.deref.result.now (vec_items c.args.self.now.slots) c.args.k c.deref.ensures.value c.in-Some.slot.now finds.3.0 finds.1 in
     record {
-      answer = c.write-slot.ensures.answer ∙ sym (ap (λ i. null_of (fitting (length part) i)) here);
-      after = c.write-slot.ensures.after ∙ sym (ap (λ i. filled (fitting (length part) i) part) here);
+      answer = c.write_slot.ensures.answer ∙ sym (ap (λ i. null_of (fitting (length part) i)) here);
+      after = c.write_slot.ensures.after ∙ sym (ap (λ i. filled (fitting (length part) i) part) here);
     }
