@@ -4,7 +4,7 @@ use Rattle.checkline.specs.Spelled.{around_parts}
 use Rattle.checkline.proofs.Spelling.{not_around}
 use Rattle.checkline.proofs.words.parse_layer.Goals as goal
 
-pub returns-in-default : goal.returns-in-default
-returns-in-default c =
-    let none : length c.in-ok-name.rest.now ≤ 0 = search rules in
-    sym (ap around_parts (sym c.split-at-first.ensures ∙ ap seen_pair c.in-ok-name.was) ∙ not_around _ c.in-ok-name.rest.now none)
+pub returns-in_default : goal.returns-in_default
+returns-in_default c =
+    let none : length c.in_ok-name.rest.now ≤ 0 = search rules in
+    sym (ap around_parts (sym c.split_at_first.ensures ∙ ap seen_pair c.in_ok-name.was) ∙ not_around _ c.in_ok-name.rest.now none)

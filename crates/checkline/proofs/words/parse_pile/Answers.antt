@@ -5,11 +5,11 @@ use Rattle.checkline.proofs.words.parse_pile.Goals as goal
 
 pub returns-in-None : goal.returns-in-None
 returns-in-None c =
-    c.over-bottom.ensures
+    c.over_bottom.ensures
     ∙ ap (onto (vec_items c.loop.layers)) (sym (no_layer (most_layers - c.loop.counter) c.loop.rest.now (sym c.in-None.ensures)))
     ∙ c.loop.invariant
 
 pub loop-preserved : goal.loop-preserved
 loop-preserved c =
     layer_more (vec_items c.loop.layers) c.in-Some.layer c.loop.counter c.loop.rest.now c.in-Some.inside.now (omega arith)
-    (sym c.in-Some.ensures) c.in-ok-push.ensures.items c.loop.invariant
+    (sym c.in-Some.ensures) c.in_ok-push-in-Some.ensures.items c.loop.invariant

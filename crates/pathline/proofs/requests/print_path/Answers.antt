@@ -12,9 +12,9 @@ pub returns : goal.returns
 returns c =
     let flag = flag_text c.closed.result in
     let list = parts_text (texts_of (point_text 58) read_point) (points_state c.points.result) in
-    let closed = c.in-ok-push-flag.ensures ∙ ap (λ l. l ++ flag) c.in-ok-out.ensures.items in
-    let space = pushed (32 ∷ []) closed c.in-ok-push.was c.push.ensures.items in
-    c.in-ok-push-parts.ensures
+    let closed = c.in_ok-push_flag.ensures ∙ ap (λ l. l ++ flag) c.in_ok-out.ensures.items in
+    let space = pushed (32 ∷ []) closed c.in_ok-push.was c.push.ensures.items in
+    c.in_ok-push_parts.ensures
     ∙ ap (λ l. l ++ list) space
     ∙ append_assoc (codes "path closed=" ++ flag) (32 ∷ []) list
     ∙ append_assoc (codes "path closed=") flag (32 ∷ list)

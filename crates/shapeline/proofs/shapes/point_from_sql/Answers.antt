@@ -6,10 +6,10 @@ use Rattle.shapeline.proofs.shapes.point_from_sql.Goals as goal
 
 pub returns-in-Ok : goal.returns-in-Ok
 returns-in-Ok c =
-    let all = on_some (λ bs. point_answer (point_recv bs)) vec_items c.in-Some.bytes c.in-ok-bytes.ensures c.in-Some.is c.deref.ensures.value in
-    says vec_items c.print-point.result _ _ (ap point_answer c.in-Ok.ensures.answer ∙ sym all) c.print-point.ensures
+    let all = on_some (λ bs. point_answer (point_recv bs)) vec_items c.in-Some.bytes c.in_ok-bytes.ensures c.in-Some.is c.deref.ensures.value in
+    says vec_items c.print_point.result _ _ (ap point_answer c.in-Ok.ensures.answer ∙ sym all) c.print_point.ensures
 
 pub returns : goal.returns
 returns c =
-    let all = on_some (λ bs. point_answer (point_recv bs)) vec_items c.in-Some.bytes c.in-ok-bytes.ensures c.in-Some.is c.deref.ensures.value in
+    let all = on_some (λ bs. point_answer (point_recv bs)) vec_items c.in-Some.bytes c.in_ok-bytes.ensures c.in-Some.is c.deref.ensures.value in
     says vec_items c.refusal.result _ _ (ap point_answer c.in-Err.ensures.answer ∙ sym all) c.refusal.ensures

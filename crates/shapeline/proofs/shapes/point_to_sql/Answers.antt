@@ -13,13 +13,13 @@ returns c =
     let p = c.in-Some.point in
     let x = c.x.result in
     let y = c.y.result in
-    let before = c.deref-mut.result.now in
-    let held_bytes : c.deref.result.now ≡ c.point-to-sql-written.new.part = search (rules, with_items_is) in
+    let before = c.deref_mut.result.now in
+    let held_bytes : c.deref.result.now ≡ c.point_to_sql-written.new.part = search (rules, with_items_is) in
     let e : Encoding = room_for (length before) (Ok (point_layout (point x y))) in
-    says vec_items c.print-written.result _ _
-    (ap wrote (written_is e before c.point-to-sql-written.ensures.answer (held_bytes ∙ c.point-to-sql-written.ensures.after))
-    ∙ ap (λ l. wrote (room_for l (Ok (point_layout (point x y))))) (ap length c.deref-mut.ensures.value ∙ c.in-ok-part.ensures)
+    says vec_items c.print_written.result _ _
+    (ap wrote (written_is e before c.point_to_sql-written.ensures.answer (held_bytes ∙ c.point_to_sql-written.ensures.after))
+    ∙ ap (λ l. wrote (room_for l (Ok (point_layout (point x y))))) (ap length c.deref_mut.ensures.value ∙ c.in_ok-part.ensures)
     ∙ ap (λ a. wrote (room_for n (Ok (point_layout (point a y))))) c.x.ensures
     ∙ ap (λ b. wrote (room_for n (Ok (point_layout (point p.x b))))) c.y.ensures
     ∙ ap (answered (λ q. wrote (room_for n (Ok (point_layout q))))) c.in-Some.ensures)
-    c.print-written.ensures
+    c.print_written.ensures

@@ -8,9 +8,9 @@ pub returns : goal.returns
 returns c =
     let n = decimal c.len.result in
     let bs = byte_string c.bytes.result.now in
-    let count = c.in-ok-push-decimal.ensures ∙ ap (λ l. l ++ n) c.in-ok-out.ensures.items in
-    let space = pushed (32 ∷ []) count c.in-ok-push.was c.push.ensures.items in
-    c.in-ok-push-bytes.ensures
+    let count = c.in_ok-push_decimal.ensures ∙ ap (λ l. l ++ n) c.in_ok-out.ensures.items in
+    let space = pushed (32 ∷ []) count c.in_ok-push.was c.push.ensures.items in
+    c.in_ok-push_bytes.ensures
     ∙ ap (λ l. l ++ bs) space
     ∙ append_assoc (codes "varbit bits=" ++ n) (32 ∷ []) bs
     ∙ append_assoc (codes "varbit bits=") n (32 ∷ bs)

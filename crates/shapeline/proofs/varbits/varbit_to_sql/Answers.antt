@@ -12,17 +12,17 @@ use Rattle.shapeline.proofs.varbits.varbit_to_sql.Goals as goal
 pub returns : goal.returns
 returns c =
     let n = room (length c.args.argument.now) in
-    let bits = c.in-Some-parse-number.bits in
+    let bits = c.in-Some-parse_number.bits in
     let lent = c.deref.result.now in
     let bytes = vec_items c.in-Some-2.bytes in
-    let before = c.deref-mut.result.now in
-    let held_bytes : c.deref-2.result.now ≡ c.varbit-to-sql-written.new.part = search (rules, with_items_is) in
+    let before = c.deref_mut.result.now in
+    let held_bytes : c.deref-2.result.now ≡ c.varbit_to_sql-written.new.part = search (rules, with_items_is) in
     let e : Encoding = room_for (length before) (varbit_encoding bits lent) in
-    says vec_items c.print-written.result _ _
-    (ap wrote (written_is e before c.varbit-to-sql-written.ensures.answer (held_bytes ∙ c.varbit-to-sql-written.ensures.after))
-    ∙ ap (λ l. wrote (room_for l (varbit_encoding bits lent))) (ap length c.deref-mut.ensures.value ∙ c.in-ok-part.ensures)
+    says vec_items c.print_written.result _ _
+    (ap wrote (written_is e before c.varbit_to_sql-written.ensures.answer (held_bytes ∙ c.varbit_to_sql-written.ensures.after))
+    ∙ ap (λ l. wrote (room_for l (varbit_encoding bits lent))) (ap length c.deref_mut.ensures.value ∙ c.in_ok-part.ensures)
     ∙ ap (λ l. wrote (room_for n (varbit_encoding bits l))) c.deref.ensures.value
-    ∙ ap (λ o. written n o (Some bytes)) c.in-Some-parse-number.ensures
-    ∙ ap (written n (number_in (2 ^ 64 - 1) c.in-Some.bits.now)) (sym (ap (option_map vec_items) c.in-Some-2.is) ∙ c.in-ok-bytes.ensures)
+    ∙ ap (λ o. written n o (Some bytes)) c.in-Some-parse_number.ensures
+    ∙ ap (written n (number_in (2 ^ 64 - 1) c.in-Some.bits.now)) (sym (ap (option_map vec_items) c.in-Some-2.is) ∙ c.in_ok-bytes.ensures)
     ∙ ap (bits_words n) c.in-Some.ensures)
-    c.print-written.ensures
+    c.print_written.ensures

@@ -10,11 +10,11 @@ pub returns : goal.returns
 unfolding double_text
 returns c =
     let out = vec_items c.args.out.now in
-    let after = vec_items c.push-hex.new.out in
-    let bytes = c.to-be-bytes.result in
+    let after = vec_items c.push_hex.new.out in
+    let bytes = c.to_be_bytes.result in
     IfOk-weaker
-    c.push-hex.result
+    c.push_hex.result
     (λ _. after ≡ out ++ hex bytes)
     (λ _. after ≡ out ++ double_text c.args.x)
-    (λ _ e. e ∙ ap (λ l. out ++ hex l) (c.to-be-bytes.ensures ∙ sym (be_8 c.to-word.result)) ∙ ap (λ w. out ++ hex (be 8 w)) c.to-word.ensures.word)
-    c.push-hex.ensures.added
+    (λ _ e. e ∙ ap (λ l. out ++ hex l) (c.to_be_bytes.ensures ∙ sym (be_8 c.to_word.result)) ∙ ap (λ w. out ++ hex (be 8 w)) c.to_word.ensures.word)
+    c.push_hex.ensures.added

@@ -11,7 +11,7 @@ returns c =
     let p = c.args.point in
     let x = double_text c.x.result in
     let y = double_text c.y.result in
-    behind c.push-double-2.result (x ++ (sep ∷ [])) (vec_items c.args.out.now) (vec_items c.push.new.self) (vec_items c.push-double-2.new.out) y (point_text sep p)
-    (pushed (sep ∷ []) c.in-ok-push-double.ensures c.in-ok-push.was c.push.ensures.items ∙ append_assoc (vec_items c.args.out.now) x (sep ∷ []))
+    behind c.push_double-2.result (x ++ (sep ∷ [])) (vec_items c.args.out.now) (vec_items c.push.new.self) (vec_items c.push_double-2.new.out) y (point_text sep p)
+    (pushed (sep ∷ []) c.in_ok-push_double.ensures c.in_ok-push.was c.push.ensures.items ∙ append_assoc (vec_items c.args.out.now) x (sep ∷ []))
     (append_assoc x (sep ∷ []) y ∙ ap (λ a. double_text a ++ (sep ∷ y)) c.x.ensures ∙ ap (λ b. double_text p.x ++ (sep ∷ double_text b)) c.y.ensures)
-    c.push-double-2.ensures
+    c.push_double-2.ensures

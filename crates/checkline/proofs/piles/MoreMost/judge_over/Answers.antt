@@ -10,4 +10,4 @@ returns-in-empty g c =
 pub returns-in-len1-up : goal.returns-in-len1-up
 returns-in-len1-up g c =
     let some : 0 < length c.args.layers.now = search rules in
-    innermost_below c.args.layers.now _ _ c.args.bytes.now some c.judge-over.ensures
+    innermost_below c.args.layers.now _ _ c.args.bytes.now some c.judge_over.ensures

@@ -6,12 +6,12 @@ use Rattle.shapeline.specs.Words.{point_text}
 use Rattle.wire.specs.Cursor.{step}
 use Rattle.pathline.proofs.points.PointTextsParts.next_text.Goals as goal
 
-pub returns-in-ok-print-point : goal.returns-in-ok-print-point
-returns-in-ok-print-point c =
+pub returns-in_ok-print_point-in-Ok-Some : goal.returns-in_ok-print_point-in-Ok-Some
+returns-in_ok-print_point-in-Ok-Some c =
     let s = points_state c.args.self.now.cursor in
     let told = c.in-Ok-Some.ensures.answer in
     let is : Ok (Some c.in-Ok-Some.point) ≡ (step read_point s).0 = cc in
-    shows (point_text 58) read_point s _ (Ok (Some c.in-Ok-Some.point)) _ is c.next.ensures.after (ap (λ l. Ok (Some l)) c.in-ok-print-point.ensures)
+    shows (point_text 58) read_point s _ (Ok (Some c.in-Ok-Some.point)) _ is c.next.ensures.after (ap (λ l. Ok (Some l)) c.in_ok-print_point-in-Ok-Some.ensures)
 
 pub returns-in-Ok-None : goal.returns-in-Ok-None
 returns-in-Ok-None c =
