@@ -1,17 +1,17 @@
 -- Different arrays have different bytes.
-use Rattle.std.proofs.Common.{◌≡◌, ℕ, ◌+◌, ◌*◌, ◌^◌, ◌<◌, ◌≤◌, cond, List, [], ◌∷◌, ◌++◌, length, take, drop, ℤ, Some, None, Ok, sym, refl, ap, ◌∙◌, subst, arith, w32, SFits, to_z, of_z}
+use Rattle.std.proofs.Common.{◌≡◌, ℕ, ◌*◌, ◌≤◌, List, [], ◌∷◌, ◌++◌, length, take, drop, ℤ, Some, None, Ok, sym, refl, ap, ◌∙◌, arith, w32, SFits, to_z, of_z}
 use mir.Facts.{Fits-of_z}
 use Rattle.std.proofs.lemmas.List.{append_cancel_left, take_at, drop_at}
 use Rattle.std.proofs.lemmas.Int.{to_z-of_z}
 use Rattle.std.specs.List.{AllByRecursion as All}
-use Rattle.wire.specs.Cursor.{Nullable, read_nullable}
+use Rattle.wire.specs.Cursor.{read_nullable}
 use Rattle.wire.specs.Items.{Within, nullable}
-use Rattle.wire.specs.Words.{Value, be, int}
+use Rattle.wire.specs.Words.{Value, int}
 use Rattle.wire.proofs.Nullables.{nullable_forms, nullable_written}
 use Rattle.wire.proofs.Wording.{be_same}
 use Rattle.array.specs.declared.dimension.ArrayDimension.{ArrayDimension}
-use Rattle.array.specs.Laws.{Words, Writable, Distinct}
-use Rattle.array.specs.Layout.{dimension, dimensions, elements, has_null, array_layout}
+use Rattle.array.specs.Laws.{Words, Distinct}
+use Rattle.array.specs.Layout.{dimensions, elements}
 use Rattle.array.proofs.Dimensions.{length_dimensions}
 
 -- a signed word tells its number

@@ -1,5 +1,5 @@
 -- What ties writing, opening and reading an array together.
-use Rattle.std.specs.Prelude.{◌≡◌, ℕ, ◌*◌, ◌^◌, ◌<◌, ◌≤◌, Bool, cond, not, ◌↔◌, List, [], ◌∷◌, length, ℤ, pos, negsuc, Some, None, Ok, Option, FitsSigned, ◌==◌, nat_lt}
+use Rattle.std.specs.Prelude.{◌≡◌, ℕ, ◌*◌, ◌^◌, ◌<◌, Bool, cond, not, List, [], ◌∷◌, length, ℤ, pos, negsuc, Some, None, Ok, Option, FitsSigned, ◌==◌, nat_lt}
 use Rattle.std.specs.Int.{w32}
 use Rattle.std.specs.List.{AllByRecursion as All}
 use Rattle.wire.specs.Cursor.{Reads, Row, Nullable, read_nullable}

@@ -1,5 +1,5 @@
 -- Points and boxes by the words of their coordinates.
-use Rattle.std.specs.Prelude.{◌≡◌, ℕ, Bool, ◌==◌, Decides, Float}
+use Rattle.std.specs.Prelude.{◌≡◌, Bool, ◌==◌, Decides, Float}
 use Rattle.std.specs.Ordering.{on, eq_of_both}
 use Rattle.double.specs.declared.point.Point.{Point}
 use Rattle.double.specs.declared.point.Box.{Box}

@@ -1,5 +1,5 @@
 -- What the kinds of elements mean.
-use Rattle.std.specs.Prelude.{ℕ, List, ◌++◌, ℤ, Some, None, Ok, Option, Float}
+use Rattle.std.specs.Prelude.{◌++◌, ℤ, Some, None, Ok, Option, Float}
 use Rattle.std.proofs.Common.{lit≤, of_z}
 use Rattle.std.specs.Int.{w64}
 use Rattle.double.specs.declared.point.Point.{Point}

@@ -15,7 +15,7 @@ use Rattle.wire.specs.Words.{be, then, u64_at}
 use Rattle.wire.proofs.Reading.{word_lt}
 use Rattle.wire.proofs.Taking.{then_ok, uint_ok}
 use Rattle.wire.proofs.Wording.{number_be, be_word}
-use Rattle.geometry.specs.Laws.{PointForm, BoxForm, PointReads, BoxReads, Doubles, PointDistinct, BoxDistinct}
+use Rattle.geometry.specs.Laws.{PointForm, PointReads, BoxReads, Doubles, PointDistinct, BoxDistinct}
 use Rattle.geometry.specs.Layout.{point_layout}
 use Rattle.geometry.specs.Recv.{point_at, point_recv, box_recv, whole}
 

@@ -5,7 +5,7 @@ use Rattle.std.specs.Float.Ieee.{fits}
 use Rattle.double.specs.declared.point.Box.{Box}
 use Rattle.double.specs.declared.point.Point.{Point}
 use Rattle.double.specs.Doubles.{word_double}
-use Rattle.double.specs.Points.{point, corners}
+use Rattle.double.specs.Points.{point}
 use Rattle.wire.specs.Words.{be}
 use Rattle.geometry.specs.Layout.{point_layout, box_layout}
 use Rattle.geometry.specs.Recv.{point_recv, box_recv}

@@ -1,7 +1,7 @@
 -- The laws of reading and writing.
-use Rattle.std.proofs.Common.{◌≡◌, ℕ, ◌+◌, ◌^◌, ◌<◌, ◌≤◌, Bool, true, false, cond, eqb, leb, ◌⊎◌, List, [], ◌∷◌, ◌++◌, length, get_or, take, drop, Ok, Err, Result, sym, refl, ap, ◌∙◌, subst, inl, inr, ⊎_elim, arith}
+use Rattle.std.proofs.Common.{◌≡◌, ℕ, ◌+◌, ◌≤◌, Bool, true, false, cond, eqb, leb, ◌⊎◌, List, [], ◌∷◌, ◌++◌, length, get_or, take, drop, Ok, Err, Result, sym, refl, ap, ◌∙◌, subst, inl, inr, ⊎_elim, arith}
 use Rattle.std.proofs.lemmas.List.{take-append-drop, take_all, length-drop, drop-drop}
-use Rattle.std.proofs.lemmas.Bool.{leb-true, eqb-true, le-leb}
+use Rattle.std.proofs.lemmas.Bool.{eqb-true, le-leb}
 use Rattle.fault.specs.declared.Fault.{Fault}
 use Rattle.fault.specs.declared.Rule.TheVariants.{Truncated, Family}
 use Rattle.wire.specs.Bytes.{Octets}
@@ -14,9 +14,9 @@ use Rattle.inet.specs.declared.address.IpAddr.{IpAddr}
 use Rattle.inet.specs.declared.address.IpAddr.TheVariants.{V4, V6}
 use Rattle.inet.specs.Laws.{ReadsBack, Distinct, LaidOut}
 use Rattle.inet.specs.Layout.{Whole, widest, octets, inet_bytes, inet_layout}
-use Rattle.inet.specs.Recv.{inet, mask_of, masked, inet_recv}
+use Rattle.inet.specs.Recv.{inet, mask_of, masked}
 use Rattle.wire.proofs.Taking.{passed}
-use Rattle.inet.proofs.Steps.{Right, right}
+use Rattle.inet.proofs.Steps.{right}
 
 pub reads_back : (a : IpAddr) (mask : ℕ) → Whole a → ReadsBack a mask
 reads_back (V4 a) mask whole h ignored =

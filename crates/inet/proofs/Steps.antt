@@ -1,16 +1,12 @@
 -- What the tests of a reader and the writes of a writer come to.
-use Rattle.std.proofs.Common.{◌≡◌, ℕ, ◌+◌, ◌<◌, ◌≤◌, Bool, true, false, cond, eqb, leb, List, [], ◌∷◌, ◌++◌, length, get_or, drop, Ok, Err, Result, sym, refl, ap, ◌∙◌, arith}
+use Rattle.std.proofs.Common.{◌≡◌, ℕ, ◌+◌, ◌≤◌, eqb, leb, List, length, get_or, Ok, arith}
 use Rattle.std.proofs.lemmas.Bool.{leb-true, eqb-true, le-leb, eq-eqb}
-use Rattle.fault.specs.declared.Fault.{Fault}
 use Rattle.fault.specs.declared.Rule.TheVariants.{Truncated, Trailing, Mask, Octets}
-use Rattle.wire.specs.Bytes.{put, over}
 use Rattle.fault.specs.Faults.{fault}
-use Rattle.wire.specs.Words.{word, uint_at}
+use Rattle.wire.specs.Words.{word}
 use Rattle.wire.proofs.Taking.{passed}
-use Rattle.inet.specs.declared.address.Inet.{Inet}
-use Rattle.inet.specs.declared.address.IpAddr.{IpAddr}
 use Rattle.inet.specs.declared.address.IpAddr.TheVariants.{V4, V6}
-use Rattle.inet.specs.Recv.{inet, mask_of, masked, inet_recv}
+use Rattle.inet.specs.Recv.{inet, mask_of, inet_recv}
 
 -- a mask was answered: all tests were passed
 pub record Right (widest count : ℕ) (bs : List ℕ) (mask : ℕ) : Type 0 where

@@ -23,7 +23,7 @@ use Rattle.wire.proofs.Taking.{then_ok, uint_ok, count_ok}
 use Rattle.wire.proofs.Wording.{length_be, word_back, be_word}
 use Rattle.path.specs.Laws.{Form, Opens, ReadsBack, OnlyForms, WrittenBack, Distinct}
 use Rattle.path.specs.Layout.{points_layout, path_bytes, path_layout}
-use Rattle.path.specs.Recv.{Opened, opened_with, path_recv, read_point, at_points}
+use Rattle.path.specs.Recv.{opened_with, path_recv, read_point, at_points}
 
 -- a word that stands behind others is read
 uint_back : (w : ℕ) (pre rest : List ℕ) (n : ℕ) → n < 256 ^ w → uint_at w (pre ++ (be w n ++ rest)) (length pre) ≡ Ok n

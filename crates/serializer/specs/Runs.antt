@@ -1,5 +1,5 @@
 -- A run of elements as a list of items.
-use Rattle.std.specs.Prelude.{ℕ, zero, suc, ◌≤◌, List, [], ◌∷◌, map, length, Some, None, Ok, Err, slice_index_or}
+use Rattle.std.specs.Prelude.{ℕ, zero, suc, List, [], ◌∷◌, map, Some, None, Ok, Err, slice_index_or}
 use Rattle.std.proofs.Common.{lit≤, le_trans}
 use Rattle.fault.specs.declared.Fault.{Fault}
 use Rattle.wire.specs.Items.{Item, Within}

@@ -1,11 +1,11 @@
 -- What was read, and what it was read from.
-use Rattle.std.proofs.Common.{◌≡◌, ℕ, ◌+◌, ◌^◌, ◌<◌, ◌≤◌, leb, List, ◌++◌, length, take, drop, Ok, sym, refl, ap, ◌∙◌, subst, arith}
+use Rattle.std.proofs.Common.{◌≡◌, ℕ, ◌+◌, ◌^◌, ◌<◌, leb, List, ◌++◌, length, take, drop, Ok, sym, ap, ◌∙◌, subst, arith}
 use Rattle.std.proofs.lemmas.List.{length-drop, take-append-drop}
 use Rattle.std.proofs.lemmas.Bool.{cond-true, leb-true, le-leb}
 use Rattle.fault.specs.declared.Rule.TheVariants.{Overrun, Trailing}
 use Rattle.fault.specs.Faults.{fault}
 use Rattle.wire.specs.Bytes.{Octets}
-use Rattle.wire.specs.Words.{be, word, then, count_at}
+use Rattle.wire.specs.Words.{be, then, count_at}
 use Rattle.wire.proofs.Taking.{then_ok, passed, count_ok}
 use Rattle.wire.proofs.Wording.{be_word}
 use Rattle.varbit.specs.Laws.{OnlyLayouts}

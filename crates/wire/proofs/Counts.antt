@@ -1,7 +1,6 @@
 -- A count that fits a signed word.
-use Rattle.std.proofs.Common.{◌≡◌, ℕ, ◌^◌, ◌<◌, Bool, true, false, cond, ltb, ℤ, pos, Ok, Err, Result, refl, ap, arith}
+use Rattle.std.proofs.Common.{◌≡◌, ℕ, ◌^◌, ◌<◌, Bool, true, false, cond, ltb, ℤ, pos, Ok, Err, refl, arith}
 use Rattle.std.proofs.lemmas.Bool.{ltb-true}
-use Rattle.fault.specs.declared.Fault.{Fault}
 use Rattle.fault.specs.declared.Rule.TheVariants.{TooGreat}
 use Rattle.fault.specs.Faults.{fault}
 use Rattle.wire.specs.Encoding.{fitted}

@@ -1,12 +1,12 @@
 -- Reading to the end gives the parts that the bytes are made of, and only bytes made of parts are read to the end.
-use Rattle.std.proofs.Common.{◌≡◌, ℕ, zero, suc, ◌+◌, ◌-◌, ◌<◌, ◌≤◌, Bool, true, false, cond, ltb, List, [], ◌∷◌, ◌++◌, length, take, drop, Some, None, Ok, Err, Result, sym, refl, ap, ◌∙◌, subst, arith}
+use Rattle.std.proofs.Common.{◌≡◌, ℕ, zero, suc, ◌+◌, ◌-◌, ◌≤◌, Bool, true, false, cond, ltb, List, [], ◌∷◌, ◌++◌, length, take, drop, Some, None, Ok, Err, Result, sym, refl, ap, ◌∙◌, subst, arith}
 use Rattle.std.proofs.lemmas.List.{append_assoc, append-nil, length-append, drop-drop, drop_all, take-append-drop}
 use Rattle.std.proofs.lemmas.Bool.{cond-false, le-ltb, ltb-false, ne_eqb}
 use Rattle.fault.specs.declared.Fault.{Fault}
 use Rattle.fault.specs.declared.Rule.TheVariants.{Trailing}
 use Rattle.fault.specs.Faults.{fault}
 use Rattle.wire.specs.Bytes.{Octets}
-use Rattle.wire.specs.Cursor.{State, Reader, Answer, taken, ended, failed, step, Reads, end, more, before, Row, none, one, ReadsForms}
+use Rattle.wire.specs.Cursor.{State, Reader, Answer, taken, failed, step, Reads, end, more, before, Row, none, one, ReadsForms}
 
 module _ {X : Type 0} (read : Reader X) where
   -- at the end

@@ -1,5 +1,5 @@
 -- Values behind their length words, there and back.
-use Rattle.std.proofs.Common.{◌≡◌, ℕ, suc, ◌+◌, ◌-◌, ◌^◌, ◌<◌, ◌≤◌, Bool, true, false, cond, ltb, leb, List, [], ◌∷◌, ◌++◌, length, take, drop, ℤ, pos, negsuc, Some, None, Ok, Err, Result, sym, refl, ap, ◌∙◌, subst, arith, lit<, lit≤, take-add, w32, to_z}
+use Rattle.std.proofs.Common.{◌≡◌, ℕ, suc, ◌+◌, ◌-◌, ◌^◌, ◌<◌, ◌≤◌, Bool, true, false, cond, ltb, leb, List, ◌++◌, length, take, drop, pos, negsuc, Some, None, Ok, Err, Result, sym, refl, ap, ◌∙◌, subst, arith, lit<, lit≤, take-add, w32, to_z}
 use Rattle.std.proofs.lemmas.List.{append_assoc, length-append, length-take-le, length-drop, take_at, drop_at, drop-drop}
 use Rattle.std.proofs.lemmas.Int.{to_z_pos}
 use Rattle.std.proofs.lemmas.Bool.{cond-true, le-leb, leb-true, le-ltb, ltb-true, ltb-false}
@@ -9,7 +9,7 @@ use Rattle.fault.specs.Faults.{fault}
 use Rattle.wire.specs.Bytes.{Octets}
 use Rattle.wire.specs.Cursor.{ReadsForms, Nullable, read_nullable, sized}
 use Rattle.wire.specs.Items.{Within, nullable}
-use Rattle.wire.specs.Words.{Value, be, word, uint_at, signed, i32_at, value_of, value_at, payload_at}
+use Rattle.wire.specs.Words.{Value, be, word, signed, i32_at, value_of, value_at}
 use Rattle.wire.proofs.Reading.{uint_fits, word_lt}
 use Rattle.wire.proofs.Wording.{word_back, be_word}
 

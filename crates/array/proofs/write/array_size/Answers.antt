@@ -1,4 +1,4 @@
-use Rattle.std.proofs.Common.{◌≡◌, ◌+◌, ◌-◌, ◌*◌, ◌^◌, min, length, Ok, sym, ap, ◌∙◌, arith}
+use Rattle.std.proofs.Common.{◌≡◌, ◌-◌, ◌^◌, min, length, Ok, sym, ap, ◌∙◌, arith}
 use Rattle.serializer.specs.Lists.{values}
 use Rattle.array.specs.Encoding.{counted}
 use Rattle.array.specs.Layout.{array_layout}

@@ -1,11 +1,10 @@
-use Rattle.std.proofs.Common.{◌≡◌, ◌+◌, ◌*◌, ◌^◌, ◌<◌, ◌≤◌, cond, length, pos, Ok, Err, sym, refl, ap, ◌∙◌, arith, w32, SFits, to_z, of_z, rules}
+use Rattle.std.proofs.Common.{◌≡◌, ◌^◌, ◌<◌, ◌≤◌, cond, length, pos, Ok, Err, sym, ap, ◌∙◌, arith, w32, SFits, to_z, of_z, rules}
 use Rattle.std.proofs.lemmas.Result.{err_from_is_err_and}
 use Rattle.std.proofs.lemmas.Int.{to_z-of_z}
 use Rattle.wire.specs.Encoding.{told, laid, room_for, laid_at}
 use Rattle.wire.specs.Words.{int}
 use Rattle.wire.proofs.Writing.{roomy, no_room}
 use Rattle.serializer.specs.Lists.{values}
-use Rattle.array.specs.Encoding.{array_encoding}
 use Rattle.array.specs.Layout.{array_layout}
 use Rattle.wire.proofs.Counts.{count_fits}
 use Rattle.array.proofs.Extents.{extent_told, extent_refused}

@@ -1,4 +1,4 @@
-use Rattle.std.proofs.Common.{◌≡◌, length, Ok, sym, ap, ◌∙◌}
+use Rattle.std.proofs.Common.{length, Ok, sym, ap, ◌∙◌}
 use Rattle.double.specs.Points.{point}
 use Rattle.wire.specs.Encoding.{told, laid, room_for}
 use Rattle.geometry.specs.Recv.{point_recv}

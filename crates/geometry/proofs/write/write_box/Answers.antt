@@ -1,4 +1,4 @@
-use Rattle.std.proofs.Common.{◌≡◌, ◌++◌, length, sym, refl, ap, ◌∙◌, zero-le}
+use Rattle.std.proofs.Common.{◌++◌, length, sym, refl, ap, ◌∙◌, zero-le}
 use Rattle.wire.specs.Encoding.{told, laid}
 use Rattle.wire.specs.Words.{be}
 use Rattle.wire.proofs.Writing.{roomy, put_on, put_start}

@@ -1,4 +1,4 @@
-use Rattle.std.proofs.Common.{◌≡◌, ◌≤◌, length, Ok, sym, ap, ◌∙◌, arith, rules}
+use Rattle.std.proofs.Common.{arith}
 use Rattle.wire.proofs.Reading.{uint_never, uint_is, octets_typed}
 use Rattle.inet.proofs.Laws.{laid_out}
 use Rattle.inet.proofs.Steps.{right, recv_4, recv_6}

@@ -1,4 +1,4 @@
-use Rattle.std.proofs.Common.{◌≡◌, ◌+◌, ◌≤◌, length, Ok, sym, refl, ap, ◌∙◌, subst, arith}
+use Rattle.std.proofs.Common.{◌≡◌, ◌+◌, ◌≤◌, length, Ok, sym, ap, ◌∙◌, subst, arith}
 use Rattle.wire.specs.Bytes.{put}
 use Rattle.wire.specs.Words.{be}
 use Rattle.wire.proofs.Writing.{told_fits, laid_fits, told_on, laid_on}

@@ -1,4 +1,4 @@
-use Rattle.std.proofs.Common.{◌≡◌, Ok, sym, ap, ◌∙◌, arith}
+use Rattle.std.proofs.Common.{Ok, sym, ap, ◌∙◌, arith}
 use Rattle.wire.specs.Words.{be}
 use Rattle.wire.proofs.Writing.{laid_fits}
 use Rattle.serializer.proofs.Written.{item_told, item_laid}

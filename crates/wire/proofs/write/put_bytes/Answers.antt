@@ -1,4 +1,4 @@
-use Rattle.std.proofs.Common.{◌≡◌, ◌+◌, ◌≤◌, length, sym, ◌∙◌, arith}
+use Rattle.std.proofs.Common.{◌+◌, ◌≤◌, length, sym, ◌∙◌, arith}
 use Rattle.wire.proofs.Writing.{told_fits, laid_fits, put_mid_is}
 use Rattle.wire.proofs.write.put_bytes.Goals as goal
 

@@ -1,4 +1,4 @@
-use Rattle.std.proofs.Common.{◌≡◌, ◌≤◌, ◌++◌, length, sym, refl, ap, ◌∙◌, arith}
+use Rattle.std.proofs.Common.{◌≤◌, ◌++◌, length, sym, refl, ap, ◌∙◌, arith}
 use Rattle.wire.specs.Items.{null_of, filled}
 use Rattle.wire.specs.Words.{be}
 use Rattle.wire.proofs.Fitting.{item_fits}
