@@ -72,9 +72,9 @@ def installed(package):
 
 def codec():
     """The program under comparison."""
-    path = Path(os.environ.get("CODEC") or COMPARE.parent / "target/bin/codec")
+    path = Path(os.environ.get("CODEC") or COMPARE.parent / "crates/codec_all/out/codec_all")
     if not os.access(path, os.X_OK):
-        fail(f"{path} is not there: run `rt check` first, or name the program in CODEC")
+        fail(f"{path} is not there: run `rt run < /dev/null` in crates/codec_all first, or name the program in CODEC")
     return path.resolve()
 
 
@@ -93,13 +93,13 @@ def timer(source, folder):
 
 def archives():
     """The static library of `cabi`, and the C code that it calls for memory, which the kit of `rt` has."""
-    library = COMPARE.parent / "target/staticlib/libcabi.a"
+    library = COMPARE.parent / "crates/cabi/out/libcabi.a"
     if not library.is_file():
-        fail(f"{library} is not there: run `rt staticlib cabi` first")
+        fail(f"{library} is not there: run `rt lib` in crates/cabi first")
     if not shutil.which("rt"):
         fail("rt is not there: its kit has the C code that the static library calls")
     guide = subprocess.run(["rt", "doc"], capture_output=True, text=True).stdout.strip()
-    return [library, Path(guide).parent.parent / "lib/librattle_c.a"]
+    return [library, *(Path(guide).parent / "c" / name for name in ("liblibc_c.a", "libos_c.a"))]
 
 
 def build(source, folder, name):

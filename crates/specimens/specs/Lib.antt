@@ -1,1 +1,2 @@
+pub mod Deeper
 pub mod Specimens

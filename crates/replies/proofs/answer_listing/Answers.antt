@@ -5,9 +5,9 @@ use Rattle.replies.proofs.answer_listing.Goals as goal
 
 pub returns-then-same : goal.returns-then-same
 returns-then-same c =
-    says vec_items c.element-list.result _ _
+    says vec_items c.element_list.result _ _
     (sym (cond-true _ _ _ (sym c.if-same.ensures)))
-    c.element-list.ensures
+    c.element_list.ensures
 
 pub returns-then-same-2 : goal.returns-then-same-2
 returns-then-same-2 c =
@@ -23,6 +23,6 @@ returns-then-same-3 c =
 
 pub returns-else-same-3 : goal.returns-else-same-3
 returns-else-same-3 c =
-    says vec_items c.bad-request.result _ _
+    says vec_items c.bad_request.result _ _
     (sym (cond-false _ _ _ (sym c.if-same.ensures) ∙ cond-false _ _ _ (sym c.if-same-2.ensures) ∙ cond-false _ _ _ (sym c.if-same-3.ensures)))
-    c.bad-request.ensures
+    c.bad_request.ensures

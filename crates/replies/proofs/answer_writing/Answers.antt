@@ -5,54 +5,54 @@ use Rattle.replies.proofs.answer_writing.Goals as goal
 
 pub returns-then-same : goal.returns-then-same
 returns-then-same c =
-    says vec_items c.array-to-sql.result _ _
+    says vec_items c.array_to_sql.result _ _
     (sym (cond-true _ _ _ (sym c.if-same.ensures)))
-    c.array-to-sql.ensures
+    c.array_to_sql.ensures
 
 pub returns-then-same-2 : goal.returns-then-same-2
 returns-then-same-2 c =
-    says vec_items c.range-to-sql.result _ _
+    says vec_items c.range_to_sql.result _ _
     (sym (cond-false _ _ _ (sym c.if-same.ensures) ∙ cond-true _ _ _ (sym c.if-same-2.ensures)))
-    c.range-to-sql.ensures
+    c.range_to_sql.ensures
 
 pub returns-then-same-3 : goal.returns-then-same-3
 returns-then-same-3 c =
-    says vec_items c.hstore-to-sql.result _ _
+    says vec_items c.hstore_to_sql.result _ _
     (sym (cond-false _ _ _ (sym c.if-same.ensures) ∙ cond-false _ _ _ (sym c.if-same-2.ensures) ∙ cond-true _ _ _ (sym c.if-same-3.ensures)))
-    c.hstore-to-sql.ensures
+    c.hstore_to_sql.ensures
 
 pub returns-then-same-4 : goal.returns-then-same-4
 returns-then-same-4 c =
-    says vec_items c.varbit-to-sql.result _ _
+    says vec_items c.varbit_to_sql.result _ _
     (sym (cond-false _ _ _ (sym c.if-same.ensures) ∙ cond-false _ _ _ (sym c.if-same-2.ensures) ∙ cond-false _ _ _ (sym c.if-same-3.ensures) ∙ cond-true _ _ _ (sym c.if-same-4.ensures)))
-    c.varbit-to-sql.ensures
+    c.varbit_to_sql.ensures
 
 pub returns-then-same-5 : goal.returns-then-same-5
 returns-then-same-5 c =
-    says vec_items c.point-to-sql.result _ _
+    says vec_items c.point_to_sql.result _ _
     (sym (cond-false _ _ _ (sym c.if-same.ensures) ∙ cond-false _ _ _ (sym c.if-same-2.ensures) ∙ cond-false _ _ _ (sym c.if-same-3.ensures) ∙ cond-false _ _ _ (sym c.if-same-4.ensures) ∙ cond-true _ _ _ (sym c.if-same-5.ensures)))
-    c.point-to-sql.ensures
+    c.point_to_sql.ensures
 
 pub returns-then-same-6 : goal.returns-then-same-6
 returns-then-same-6 c =
-    says vec_items c.box-to-sql.result _ _
+    says vec_items c.box_to_sql.result _ _
     (sym (cond-false _ _ _ (sym c.if-same.ensures) ∙ cond-false _ _ _ (sym c.if-same-2.ensures) ∙ cond-false _ _ _ (sym c.if-same-3.ensures) ∙ cond-false _ _ _ (sym c.if-same-4.ensures) ∙ cond-false _ _ _ (sym c.if-same-5.ensures) ∙ cond-true _ _ _ (sym c.if-same-6.ensures)))
-    c.box-to-sql.ensures
+    c.box_to_sql.ensures
 
 pub returns-then-same-7 : goal.returns-then-same-7
 returns-then-same-7 c =
-    says vec_items c.path-to-sql.result _ _
+    says vec_items c.path_to_sql.result _ _
     (sym (cond-false _ _ _ (sym c.if-same.ensures) ∙ cond-false _ _ _ (sym c.if-same-2.ensures) ∙ cond-false _ _ _ (sym c.if-same-3.ensures) ∙ cond-false _ _ _ (sym c.if-same-4.ensures) ∙ cond-false _ _ _ (sym c.if-same-5.ensures) ∙ cond-false _ _ _ (sym c.if-same-6.ensures) ∙ cond-true _ _ _ (sym c.if-same-7.ensures)))
-    c.path-to-sql.ensures
+    c.path_to_sql.ensures
 
 pub returns-then-same-8 : goal.returns-then-same-8
 returns-then-same-8 c =
-    says vec_items c.inet-to-sql.result _ _
+    says vec_items c.inet_to_sql.result _ _
     (sym (cond-false _ _ _ (sym c.if-same.ensures) ∙ cond-false _ _ _ (sym c.if-same-2.ensures) ∙ cond-false _ _ _ (sym c.if-same-3.ensures) ∙ cond-false _ _ _ (sym c.if-same-4.ensures) ∙ cond-false _ _ _ (sym c.if-same-5.ensures) ∙ cond-false _ _ _ (sym c.if-same-6.ensures) ∙ cond-false _ _ _ (sym c.if-same-7.ensures) ∙ cond-true _ _ _ (sym c.if-same-8.ensures)))
-    c.inet-to-sql.ensures
+    c.inet_to_sql.ensures
 
 pub returns-else-same-8 : goal.returns-else-same-8
 returns-else-same-8 c =
-    says vec_items c.answer-listing.result _ _
+    says vec_items c.answer_listing.result _ _
     (sym (cond-false _ _ _ (sym c.if-same.ensures) ∙ cond-false _ _ _ (sym c.if-same-2.ensures) ∙ cond-false _ _ _ (sym c.if-same-3.ensures) ∙ cond-false _ _ _ (sym c.if-same-4.ensures) ∙ cond-false _ _ _ (sym c.if-same-5.ensures) ∙ cond-false _ _ _ (sym c.if-same-6.ensures) ∙ cond-false _ _ _ (sym c.if-same-7.ensures) ∙ cond-false _ _ _ (sym c.if-same-8.ensures)))
-    c.answer-listing.ensures
+    c.answer_listing.ensures

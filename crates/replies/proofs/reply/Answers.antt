@@ -7,5 +7,5 @@ use Rattle.replies.proofs.reply.Goals as goal
 pub returns-in-Some : goal.returns-in-Some
 returns-in-Some c =
     says vec_items c.answer.result _ _
-    (ap (on_words c.args.line.now) c.in-Some.ensures ∙ sym (cond-true _ _ _ (le-leb _ _ c.if-line-gt-LONGEST-LINE.false)))
+    (ap (on_words c.args.line.now) c.in-Some.ensures ∙ sym (cond-true _ _ _ (le-leb _ _ c.if-line-gt-LONGEST_LINE.false)))
     c.answer.ensures

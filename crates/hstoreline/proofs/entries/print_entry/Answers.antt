@@ -9,6 +9,6 @@ pub returns : goal.returns
 returns c =
     let key = byte_string c.args.key.now in
     let value = value_text (seen_value c.args.value) in
-    let begun = c.in-ok-push-bytes.ensures ∙ ap (λ l. l ++ key) c.new-out.ensures.items in
-    let sign = pushed (61 ∷ []) begun c.in-ok-push.was c.push.ensures.items in
-    c.in-ok-push-value.ensures ∙ ap (λ l. l ++ value) sign ∙ append_assoc key (61 ∷ []) value
+    let begun = c.in_ok-push_bytes.ensures ∙ ap (λ l. l ++ key) c.new-out.ensures.items in
+    let sign = pushed (61 ∷ []) begun c.in_ok-push.was c.push.ensures.items in
+    c.in_ok-push_value.ensures ∙ ap (λ l. l ++ value) sign ∙ append_assoc key (61 ∷ []) value

@@ -16,15 +16,15 @@ returns c =
     let house = vec_items list.house in
     let pools : Bytes = pool_pair c.new-pools.result in
     let entries = c.deref-2.result.now in
-    let before = c.deref-mut.result.now in
-    let held_bytes : c.deref-3.result.now ≡ c.hstore-to-sql-written.new.part = search (rules, with_items_is) in
+    let before = c.deref_mut.result.now in
+    let held_bytes : c.deref-3.result.now ≡ c.hstore_to_sql-written.new.part = search (rules, with_items_is) in
     let e : Encoding = room_for (length before) (hstore_encoding pools entries) in
-    let read = sym (ap (option_map (λ l. (vec_items l.house, vec_items l.entries))) c.in-Some.is) ∙ c.in-ok-list.ensures in
-    says vec_items c.print-written.result _ _
-    (ap wrote (written_is e before c.hstore-to-sql-written.ensures.answer (held_bytes ∙ c.hstore-to-sql-written.ensures.after))
-    ∙ ap (λ m. wrote (room_for m (hstore_encoding pools entries))) (ap length c.deref-mut.ensures.value ∙ c.in-ok-part.ensures)
+    let read = sym (ap (option_map (λ l. (vec_items l.house, vec_items l.entries))) c.in-Some.is) ∙ c.in_ok-list.ensures in
+    says vec_items c.print_written.result _ _
+    (ap wrote (written_is e before c.hstore_to_sql-written.ensures.answer (held_bytes ∙ c.hstore_to_sql-written.ensures.after))
+    ∙ ap (λ m. wrote (room_for m (hstore_encoding pools entries))) (ap length c.deref_mut.ensures.value ∙ c.in_ok-part.ensures)
     ∙ ap (λ ps. wrote (room_for n (hstore_encoding ps entries))) c.new-pools.ensures
     ∙ ap (λ l. wrote (room_for n (hstore_encoding (l, []) entries))) c.deref.ensures.value
     ∙ ap (λ l. wrote (room_for n (hstore_encoding (house, []) l))) c.deref-2.ensures.value
     ∙ ap (answered (written n)) read)
-    c.print-written.ensures
+    c.print_written.ensures

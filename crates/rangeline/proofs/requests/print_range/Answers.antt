@@ -10,9 +10,9 @@ pub returns-in_ok-push_bound-in-Nonempty-2 : goal.returns-in_ok-push_bound-in-No
 returns-in_ok-push_bound-in-Nonempty-2 c =
     let lower = bound_text (seen_bound c.in-Nonempty.lower) in
     let upper = bound_text (seen_bound c.in-Nonempty.upper) in
-    let first = c.in-ok-push-bound.ensures ∙ ap (λ l. l ++ lower) c.in-ok-out.ensures.items in
-    let named = pushed (codes " upper=") first c.in-ok-extend-from-slice.was c.extend-from-slice.ensures.items in
-    c.in-ok-push-bound-2.ensures
+    let first = c.in_ok-push_bound-in-Nonempty.ensures ∙ ap (λ l. l ++ lower) c.in_ok-out-in-Nonempty.ensures.items in
+    let named = pushed (codes " upper=") first c.in_ok-extend_from_slice-in-Nonempty.was c.extend_from_slice.ensures.items in
+    c.in_ok-push_bound-in-Nonempty-2.ensures
     ∙ ap (λ l. l ++ upper) named
     ∙ append_assoc (codes "range lower=" ++ lower) (codes " upper=") upper
     ∙ append_assoc (codes "range lower=") lower (codes " upper=" ++ upper)

@@ -12,9 +12,9 @@ returns c =
     let a = c.addr.result in
     let mask = c.netmask.result in
     let e : Encoding = room_for 20 (Ok (inet_layout a mask)) in
-    says vec_items c.print-written.result _ _
-    (ap wrote (written_is e (replicate 20 0) c.inet-to-sql-written.ensures.answer c.inet-to-sql-written.ensures.after ∙ layout_fits a mask)
+    says vec_items c.print_written.result _ _
+    (ap wrote (written_is e (replicate 20 0) c.inet_to_sql-written.ensures.answer c.inet_to_sql-written.ensures.after ∙ layout_fits a mask)
     ∙ ap (λ b. wrote (Ok (inet_layout b mask))) c.addr.ensures
     ∙ ap (λ m. wrote (Ok (inet_layout i.addr m))) c.netmask.ensures
-    ∙ ap (answered (λ j. wrote (Ok (inet_layout j.addr j.netmask)))) (sym c.in-Some.is ∙ c.in-ok-inet.ensures))
-    c.print-written.ensures
+    ∙ ap (answered (λ j. wrote (Ok (inet_layout j.addr j.netmask)))) (sym c.in-Some.is ∙ c.in_ok-inet.ensures))
+    c.print_written.ensures
