@@ -1,5 +1,5 @@
 -- What fills a column reads back as what the column holds.
-use Rattle.std.proofs.Common.{◌≡◌, ℕ, suc, ◌+◌, ◌*◌, ◌^◌, ◌<◌, ◌≤◌, Bool, true, false, cond, T, eqb, ltb, leb, List, [], ◌∷◌, ◌++◌, length, ℤ, pos, negsuc, Some, None, Ok, Err, Option, Result, sym, refl, ap, ◌∙◌, subst, arith, w32}
+use Rattle.std.proofs.Common.{◌≡◌, ℕ, suc, ◌+◌, ◌*◌, ◌^◌, ◌<◌, Bool, true, false, cond, T, eqb, ltb, leb, List, [], ◌∷◌, length, ℤ, pos, negsuc, Some, None, Ok, Err, Option, Result, sym, refl, ap, ◌∙◌, subst, arith, w32}
 use lib.Ieee.{binary64}
 use lib.Ieee.Bits.{of_bits-to_bits, to_bits-lt}
 use Rattle.std.proofs.lemmas.Int.{to_z_pos}
@@ -9,14 +9,12 @@ use Rattle.fault.specs.declared.Fault.{Fault}
 use Rattle.fault.specs.declared.Rule.TheVariants.{Dimensions}
 use Rattle.fault.specs.Faults.{fault, raise}
 use Rattle.array.specs.declared.dimension.ArrayDimension.{ArrayDimension}
-use Rattle.array.specs.Laws as arrays
-use Rattle.array.specs.Laws.{Words, Sound, times, product, element_count}
+use Rattle.array.specs.Laws.{Sound, times, product, element_count}
 use Rattle.array.proofs.Written as Array-written
 use Rattle.content.specs.Calls.{Content, null, column, array, range, empty_range, hstore, varbit, point, box, path, inet, held}
 use Rattle.content.specs.Held.{Held, no_value, an_item, an_array, a_range, the_empty_range, an_hstore, a_varbit, a_point, a_box, a_path, an_inet, value_of}
-use Rattle.content.specs.Rules.{Kept, few, from_serializer, factor, product_of, dimensions_fit, array_rule, range_bounds, hstore_entries, bytes_fit, varbit_rule, inet_rule}
+use Rattle.content.specs.Rules.{few, from_serializer, factor, product_of, dimensions_fit, array_rule, range_bounds, hstore_entries, bytes_fit, varbit_rule, inet_rule}
 use Rattle.double.specs.declared.point.Box.{Box}
-use Rattle.double.specs.declared.point.Point.{Point}
 use Rattle.double.specs.Doubles.{double_word, word_double}
 use Rattle.double.specs.Points as points
 use Rattle.geometry.specs.Laws.{Doubles}
@@ -30,12 +28,12 @@ use Rattle.inet.proofs.Laws as inet-laws
 use Rattle.path.proofs.Laws as path-laws
 use Rattle.range.specs.Encoding.{bound_item}
 use Rattle.range.proofs.Layouts as range-laws
-use Rattle.serializer.specs.Lists.{Short, item_at, values, first_fault, refused_or}
+use Rattle.serializer.specs.Lists.{item_at, values, first_fault, refused_or}
 use Rattle.varbit.specs.Layout.{begun, varbit_layout}
 use Rattle.varbit.specs.Recv.{varbit_recv}
 use Rattle.varbit.proofs.Laws.{recv_is}
 use Rattle.wire.specs.Items.{Item}
-use Rattle.wire.specs.Words.{Value, then, natural, count_at}
+use Rattle.wire.specs.Words.{then, natural, count_at}
 use Rattle.wire.proofs.Nullables.{i32_back}
 use Rattle.wire.proofs.Taking.{then_ok, passed}
 use Rattle.agreement.specs.Reading.{ReadsAs}

@@ -1,24 +1,21 @@
 -- Reading has one result: two columns of the same kind that read from the same value are equal.
-use Rattle.std.proofs.Common.{◌≡◌, ℕ, Bool, List, [], ◌∷◌, Some, None, Ok, sym, refl, ap, ◌∙◌, subst, arith}
+use Rattle.std.proofs.Common.{◌≡◌, ℕ, Bool, List, ◌∷◌, Some, None, sym, refl, ap, ◌∙◌, subst}
 use Rattle.array.specs.declared.dimension.ArrayDimension.{ArrayDimension}
 use Rattle.array.specs.Laws as arrays
-use Rattle.array.specs.Recv.{Opened, array_recv, read_dimension, at_dimensions, at_values}
-use Rattle.content.specs.Held.{Held, no_value, an_item, an_array, a_range, the_empty_range, an_hstore, a_varbit, a_point, a_box, a_path, an_inet}
+use Rattle.array.specs.Recv.{read_dimension, at_dimensions, at_values}
+use Rattle.content.specs.Held.{Held, an_item, an_array, a_range, an_hstore, a_varbit, a_point, a_box, a_path, an_inet}
 use Rattle.double.specs.declared.point.Point.{Point}
 use Rattle.hstore.specs.Laws as hstores
 use Rattle.hstore.specs.Layout.{Entry}
-use Rattle.hstore.specs.Recv.{hstore_recv, read_entry}
-use Rattle.inet.specs.Recv.{inet, inet_recv}
+use Rattle.hstore.specs.Recv.{read_entry}
+use Rattle.inet.specs.Recv.{inet}
 use Rattle.path.specs.Laws as paths
 use Rattle.path.specs.Recv as path
 use Rattle.range.specs.declared.bound.RangeBound.{RangeBound}
-use Rattle.range.specs.Recv.{range_recv}
-use Rattle.record.specs.Laws as records
 use Rattle.record.specs.Layout.{Column}
-use Rattle.record.specs.Recv.{record_recv, read_column}
+use Rattle.record.specs.Recv.{read_column}
 use Rattle.record.proofs.Same.{reads_same}
-use Rattle.varbit.specs.Recv.{varbit_recv}
-use Rattle.wire.specs.Cursor.{State, Reads, read_nullable}
+use Rattle.wire.specs.Cursor.{Reads, read_nullable}
 use Rattle.wire.specs.Words.{Value}
 use Rattle.agreement.specs.Book.{Book}
 use Rattle.agreement.specs.Reading as reading

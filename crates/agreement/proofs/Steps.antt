@@ -1,12 +1,12 @@
 -- A sheet holds its book, and every call keeps that.
-use Rattle.std.proofs.Common.{◌≡◌, ℕ, suc, ◌+◌, ◌^◌, ◌<◌, ◌≤◌, Bool, true, false, cond, ltb, leb, List, [], ◌∷◌, ◌++◌, map, length, take, drop, Some, None, Ok, Err, Result, sym, refl, ap, ◌∙◌, subst, arith, lit<, lit≤}
+use Rattle.std.proofs.Common.{◌≡◌, ℕ, ◌+◌, ◌^◌, ◌<◌, ◌≤◌, Bool, true, false, cond, ltb, leb, List, [], ◌∷◌, ◌++◌, length, take, drop, Some, None, Ok, Err, Result, sym, refl, ap, ◌∙◌, subst, arith, lit<}
 use Rattle.std.proofs.lemmas.List.{append_assoc, length-append, length-drop, length-map, length_push, length-take-le, map-append, take-append-drop, take_at, take-take, flat_map_more}
 use Rattle.std.proofs.lemmas.Bool.{leb-true, ltb-true, cond-true, le-leb}
-use Rattle.std.specs.List.{flat_map, AllByRecursion as All}
+use Rattle.std.specs.List.{AllByRecursion as All}
 use Rattle.fault.specs.declared.Fault.{Fault}
 use Rattle.fault.specs.declared.Rule.TheVariants.{NoRoom, TooGreat}
 use Rattle.fault.specs.Faults.{fault}
-use Rattle.content.specs.Calls.{Content, held}
+use Rattle.content.specs.Calls.{held}
 use Rattle.content.specs.Held.{Held, value_of, counted_value, held_item}
 use Rattle.record.specs.Layout.{Column, column_layout, columns_layout, record_layout}
 use Rattle.record.proofs.Laws.{record_back}

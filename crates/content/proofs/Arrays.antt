@@ -1,5 +1,5 @@
 -- Arrays whose dimensions fit their items.
-use Rattle.std.proofs.Common.{◌≡◌, ℕ, suc, ◌+◌, ◌*◌, ◌^◌, ◌<◌, ◌≤◌, Bool, true, false, cond, ltb, List, [], ◌∷◌, map, length, get_or, drop, ℤ, pos, negsuc, Some, None, Ok, Err, Option, Result, sym, refl, ap, ◌∙◌, add-one, arith, drop-cons}
+use Rattle.std.proofs.Common.{◌≡◌, ℕ, ◌+◌, ◌*◌, ◌^◌, ◌<◌, Bool, true, false, cond, ltb, List, ◌∷◌, map, length, get_or, drop, ℤ, pos, negsuc, Some, None, Ok, Err, Option, sym, refl, ap, ◌∙◌, add-one, arith, drop-cons}
 use Rattle.std.proofs.lemmas.Bool.{ltb-true}
 use Rattle.fault.specs.declared.Fault.{Fault}
 use Rattle.fault.specs.declared.Rule.TheVariants.{TooGreat, Dimensions}
@@ -8,13 +8,12 @@ use Rattle.array.specs.declared.dimension.ArrayDimension.{ArrayDimension}
 use Rattle.array.specs.Encoding.{array_encoding}
 use Rattle.array.specs.Layout.{array_layout}
 use Rattle.serializer.specs.Lists.{values, first_fault, refused_or}
-use Rattle.wire.specs.Encoding.{Encoding}
 use Rattle.wire.specs.Items.{Item}
 use Rattle.wire.specs.Words.{then}
 use Rattle.wire.proofs.Taking.{passed}
 use Rattle.rows.specs.Windows.{above}
 use Rattle.content.specs.Encoders.{array_content}
-use Rattle.content.specs.Rules.{Kept, few, factor, product_of, dimensions_fit}
+use Rattle.content.specs.Rules.{Kept, factor, product_of, dimensions_fit}
 use Rattle.content.proofs.Raising.{values_raised, fault_raised}
 
 -- a product that was made fits

@@ -12,7 +12,7 @@ use Rattle.path.specs.Layout.{path_layout, path_encoding}
 use Rattle.path.proofs.Writes.{length_points}
 use Rattle.std.proofs.lemmas.Bool.{ltb-true}
 use Rattle.texts.specs.Places.{Bytes}
-use Rattle.wire.specs.Encoding.{Encoding, told}
+use Rattle.wire.specs.Encoding.{told}
 use Rattle.wire.specs.Words.{then}
 use Rattle.content.specs.Encoders.{hstore_content, path_content}
 use Rattle.content.specs.Rules.{Kept}

@@ -1,11 +1,10 @@
 -- The rules that belong to one call, before those that all calls share.
-use Rattle.std.specs.Prelude.{ℕ, ◌+◌, ◌*◌, ◌^◌, cond, List, [], ◌∷◌, length, ℤ, pos, negsuc, Some, None, Ok, Err, Result, ◌==◌, nat_le, nat_lt}
+use Rattle.std.specs.Prelude.{ℕ, ◌+◌, ◌*◌, ◌^◌, cond, List, [], ◌∷◌, length, ℤ, pos, negsuc, Ok, Err, Result, ◌==◌, nat_le, nat_lt}
 use Rattle.std.specs.Option.{option_map}
 use Rattle.fault.specs.declared.Fault.{Fault}
 use Rattle.fault.specs.declared.Rule.TheVariants.{Mask, TooGreat, Dimensions, BitBytes}
 use Rattle.fault.specs.Faults.{fault, raise}
 use Rattle.array.specs.declared.dimension.ArrayDimension.{ArrayDimension}
-use Rattle.double.specs.declared.point.Point.{Point}
 use Rattle.hstore.specs.declared.entry.HstoreEntry.{HstoreEntry}
 use Rattle.hstore.specs.Encoding.{keys_there, entry_texts}
 use Rattle.hstore.specs.Layout.{Entry}
@@ -13,7 +12,7 @@ use Rattle.inet.specs.declared.address.IpAddr.{IpAddr}
 use Rattle.inet.specs.Layout.{widest}
 use Rattle.range.specs.declared.bound.RangeBound.{RangeBound}
 use Rattle.range.specs.Encoding.{bound_item}
-use Rattle.serializer.specs.Lists.{values, first_fault, refused_or}
+use Rattle.serializer.specs.Lists.{first_fault, refused_or}
 use Rattle.texts.specs.Places.{Bytes}
 use Rattle.varbit.specs.Layout.{begun}
 use Rattle.wire.specs.Items.{Item}

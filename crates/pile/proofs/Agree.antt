@@ -2,7 +2,6 @@
 use Rattle.std.proofs.Common.{◌≡◌, ℕ, zero, suc, ◌+◌, List, [], ◌∷◌, length, Some, None, Ok, Err, Result, sym, refl, ap, ◌∙◌, subst, arith}
 use mathlib.Core.Path.{fun_ext}
 use Rattle.fault.specs.declared.Fault.{Fault}
-use Rattle.fault.specs.Faults.{up}
 use Rattle.wire.specs.Cursor.{State, Reader, Answer, step, read_nullable}
 use Rattle.wire.specs.Words.{Value, then}
 use Rattle.array.specs.Recv.{Opened, array_recv, at_values}
@@ -10,7 +9,6 @@ use Rattle.range.specs.declared.bound.RangeBound.{RangeBound}
 use Rattle.range.specs.declared.bound.RangeBound.TheVariants.{Inclusive, Exclusive, Unbounded}
 use Rattle.range.specs.Layout.{bound}
 use Rattle.range.specs.Recv.{Content, range_recv}
-use Rattle.validator.specs.Places.{side_end}
 use Rattle.validator.specs.Reading.{Reading, Hands, null, accepted, refused, Walks, ends, breaks, stops, goes_on, ReadsArray, unopened, opened, ReadsSide, inclusive, exclusive, unbounded, ReadsRange, unread, empty, stopped, passed}
 use Rattle.validator.specs.Verdicts.{Outcome, Verdict, from_below, handed, stepped, steps, to_end, array_verdict, side_handed, sides_handed, range_verdict}
 use Rattle.validator.proofs.Walking.{took, to_end_on}

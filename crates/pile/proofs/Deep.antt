@@ -1,33 +1,29 @@
 -- What a pile writes: a matching pile accepts it, and it reads back as the rows.
-use Rattle.std.proofs.Common.{◌≡◌, ℕ, zero, suc, ◌+◌, ◌^◌, ◌<◌, List, [], ◌∷◌, map, length, get_or, Some, None, Ok, Err, Result, sym, refl, ap, ◌∙◌, subst, arith}
+use Rattle.std.proofs.Common.{◌≡◌, ℕ, suc, ◌+◌, ◌^◌, ◌<◌, List, [], ◌∷◌, map, length, get_or, Some, None, Ok, Err, sym, refl, ap, ◌∙◌, subst, arith}
 use Rattle.std.specs.List.{AllByRecursion as All}
-use Rattle.fault.specs.declared.Fault.{Fault}
 use Rattle.fault.specs.declared.Rule.TheVariants.{Missing}
 use Rattle.fault.specs.Faults.{fault}
 use Rattle.wire.specs.Cursor.{State, Reads, end, more, read_nullable}
-use Rattle.wire.specs.Encoding.{Encoding}
 use Rattle.wire.specs.Items.{Item}
 use Rattle.wire.specs.Words.{Value}
 use Rattle.serializer.specs.Lists.{Short, item_at, values}
-use Rattle.array.specs.Laws.{Opens}
 use Rattle.range.specs.declared.bound.RangeBound.{RangeBound}
-use Rattle.range.specs.declared.bound.RangeBound.TheVariants.{Inclusive, Exclusive, Unbounded}
 use Rattle.range.specs.Layout.{bound, empty_layout}
 use Rattle.range.specs.Recv.{range_recv}
 use Rattle.rows.specs.declared.row.ArrayRow.{ArrayRow}
 use Rattle.rows.specs.declared.row.RangeRow.{RangeRow}
 use Rattle.rows.specs.declared.row.RangeRow.TheVariants.{Empty, Bounds}
-use Rattle.rows.specs.Rows.{array_row, range_row, row_items, rows_short}
+use Rattle.rows.specs.Rows.{array_row, range_row, rows_short}
 use Rattle.rows.specs.Windows.{window}
-use Rattle.validator.specs.Reading.{Hands, null, accepted, Walks, ends, goes_on, ReadsArray, opened, ReadsSide, inclusive, exclusive, unbounded, ReadsRange, empty, passed}
-use Rattle.validator.specs.Verdicts.{Outcome, Verdict, array_verdict, range_verdict}
+use Rattle.validator.specs.Reading.{Hands, null, accepted, Walks, ends, goes_on, opened, ReadsSide, inclusive, exclusive, unbounded, empty, passed}
+use Rattle.validator.specs.Verdicts.{Verdict, array_verdict, range_verdict}
 use Rattle.pile.specs.Back as back
 use Rattle.pile.specs.Back.{ReadsItem, SideBack, ArrayBack, RangeBack, bounds, RowBack, pile_back, ReadsBack}
 use Rattle.pile.specs.Match.{Accepts, AcceptsAll, Matching}
 use Rattle.pile.specs.Piles.{Rows, array_rows, range_rows, By, Typed, layer_of, layer_items, pile_items, layer_verdict, pile_verdict}
 use Rattle.pile.proofs.Agree.{Agrees, array_agrees, range_agrees}
 use Rattle.pile.proofs.Ranges.{range_read}
-use Rattle.pile.proofs.Written.{From, row_of, row_has, array_read}
+use Rattle.pile.proofs.Written.{row_of, row_has, array_read}
 
 -- items are short at every level
 layer_short : (l : Rows) (is : List Item) (k : ℕ) → Short (item_at (layer_items l is) k)

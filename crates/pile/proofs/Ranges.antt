@@ -1,8 +1,6 @@
 -- What the rows of a range layer write, and how it is read.
-use Rattle.std.proofs.Common.{◌≡◌, ℕ, zero, suc, ◌+◌, ◌^◌, ◌<◌, ◌≤◌, Bool, true, false, cond, ◌⊎◌, List, [], ◌∷◌, length, get_or, Some, None, Ok, Err, sym, refl, ap, ◌∙◌, subst, inl, inr, arith}
+use Rattle.std.proofs.Common.{◌≡◌, ℕ, ◌+◌, List, Some, Ok, sym, ap, ◌∙◌, subst, inl, inr, arith}
 use Rattle.std.proofs.lemmas.Bool.{cases_lt}
-use Rattle.fault.specs.declared.Rule.TheVariants.{Missing}
-use Rattle.fault.specs.Faults.{fault}
 use Rattle.wire.specs.Items.{Item}
 use Rattle.wire.specs.Words.{Value, then}
 use Rattle.wire.proofs.Taking.{then_ok}
@@ -10,12 +8,12 @@ use Rattle.serializer.specs.Lists.{Short, item_at}
 use Rattle.range.specs.declared.bound.RangeBound.{RangeBound}
 use Rattle.range.specs.declared.bound.RangeBound.TheVariants.{Inclusive, Exclusive, Unbounded}
 use Rattle.range.specs.Encoding.{bound_item, range_encoding}
-use Rattle.range.specs.Layout.{range_layout, empty_layout}
+use Rattle.range.specs.Layout.{range_layout}
 use Rattle.range.specs.Recv.{range_recv}
 use Rattle.range.proofs.Layouts.{written_back}
 use Rattle.rows.specs.Windows.{window, window_short}
 use Rattle.rows.proofs.Windowing.{window_item, window_past}
-use Rattle.pile.specs.Back.{ReadsItem, SideBack, inclusive, exclusive, unbounded}
+use Rattle.pile.specs.Back.{SideBack, inclusive, exclusive, unbounded}
 use Rattle.pile.proofs.Written.{above_ok}
 
 -- an item that has a value through the window has it below

@@ -1,17 +1,14 @@
 -- What the rows of a layer write, and how it is read.
-use Rattle.std.proofs.Common.{◌≡◌, ℕ, zero, suc, ◌+◌, ◌*◌, ◌^◌, ◌<◌, ◌≤◌, Bool, true, false, cond, eqb, ltb, List, [], ◌∷◌, map, length, get_or, pos, Some, None, Ok, Err, Option, Result, sym, refl, ap, ◌∙◌, subst, arith, w32, SFits}
+use Rattle.std.proofs.Common.{◌≡◌, ℕ, zero, suc, ◌+◌, ◌*◌, ◌^◌, ◌<◌, ◌≤◌, Bool, true, false, cond, ltb, List, [], ◌∷◌, length, get_or, pos, Some, None, Ok, Err, Option, Result, sym, refl, ap, ◌∙◌, subst, arith}
 use Rattle.std.proofs.lemmas.Bool.{cond-true, cond-false, lt-ltb, ne_eqb}
 use Rattle.std.specs.List.{AllByRecursion as All}
 use Rattle.fault.specs.declared.Fault.{Fault}
-use Rattle.fault.specs.declared.Rule.TheVariants.{TooGreat, Missing}
-use Rattle.fault.specs.Faults.{fault, raise}
+use Rattle.fault.specs.declared.Rule.TheVariants.{TooGreat}
+use Rattle.fault.specs.Faults.{fault}
 use Rattle.wire.specs.Encoding.{Encoding}
 use Rattle.wire.specs.Items.{Item}
-use Rattle.wire.specs.Words.{Value, then}
-use Rattle.wire.proofs.Taking.{then_ok}
+use Rattle.wire.specs.Words.{Value}
 use Rattle.serializer.specs.Lists.{Short, item_at, values, first_fault, refused_or}
-use Rattle.array.specs.declared.dimension.ArrayDimension.{ArrayDimension}
-use Rattle.array.specs.Encoding.{array_encoding}
 use Rattle.array.specs.Laws.{Words, Sound, Opens, product, element_count}
 use Rattle.array.specs.Layout.{array_layout, has_null}
 use Rattle.array.proofs.Written.{all_short, written_back}

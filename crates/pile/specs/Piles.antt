@@ -1,10 +1,9 @@
 -- Piles: any serializer or validator, its bottom, under layers in any number.
-use Rattle.std.specs.Prelude.{◌≡◌, ℕ, ◌^◌, ◌<◌, ◌↔◌, List, [], ◌∷◌, map}
+use Rattle.std.specs.Prelude.{◌≡◌, ℕ, ◌^◌, ◌<◌, ◌↔◌, List, [], ◌∷◌}
 use Rattle.std.specs.List.{AllByRecursion as All}
 use Rattle.wire.specs.Items.{Item}
 use Rattle.rows.specs.declared.row.ArrayRow.{ArrayRow}
 use Rattle.rows.specs.declared.row.RangeRow.{RangeRow}
-use Rattle.rows.specs.declared.row.RangeRow.TheVariants.{Empty, Bounds}
 use Rattle.rows.specs.Rows.{array_layer, range_layer}
 use Rattle.validator.specs.Reading.{Reading, ReadsArray, ReadsRange}
 use Rattle.validator.specs.Verdicts.{Outcome, Verdict, array_verdict, range_verdict}

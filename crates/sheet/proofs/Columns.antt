@@ -1,13 +1,13 @@
 -- Writing one column.
-use Rattle.std.proofs.Common.{◌≡◌, ℕ, ◌+◌, ◌-◌, ◌^◌, ◌<◌, ◌≤◌, Bool, true, false, cond, ltb, leb, List, ◌++◌, length, is_ok, Some, None, Ok, Err, Option, unwrap_or, sym, refl, ap, ◌∙◌, arith}
+use Rattle.std.proofs.Common.{◌≡◌, ℕ, ◌+◌, ◌-◌, ◌≤◌, true, List, ◌++◌, length, is_ok, Ok, Err, refl, ap, ◌∙◌, arith}
 use borrow.Rule.Slice.PartMut.{put_mid}
 use Rattle.std.proofs.lemmas.List.{take_rest, length-drop}
 use Rattle.range.specs.Encoding.{bytes}
 use Rattle.serializer.proofs.Written.{rest}
 use Rattle.wire.specs.Bytes.{put, over}
-use Rattle.wire.specs.Encoding.{Encoding, told, laid, room_for, laid_at}
-use Rattle.wire.specs.Items.{Item, size_of, nullable, nullable_item}
-use Rattle.wire.specs.Words.{Value, be}
+use Rattle.wire.specs.Encoding.{told, laid, room_for, laid_at}
+use Rattle.wire.specs.Items.{Item, nullable_item}
+use Rattle.wire.specs.Words.{be}
 use Rattle.wire.proofs.Writing.{laid_fits, length_put, put_lent, put_on, roomy}
 
 sound_bytes : (i : Item) → is_ok i ≡ true → nullable_item i ≡ Ok (bytes (nullable_item i))

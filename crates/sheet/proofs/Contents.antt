@@ -1,6 +1,5 @@
 -- What fills a column, as the item that is filed.
-use Rattle.std.proofs.Common.{◌≡◌, ℕ, List, Ok, Err, Result, refl}
-use Rattle.fault.specs.declared.Fault.{Fault}
+use Rattle.std.proofs.Common.{◌≡◌, ℕ, List, Ok, Err, refl}
 use Rattle.array.specs.declared.dimension.ArrayDimension.{ArrayDimension}
 use Rattle.content.specs.Calls as calls
 use Rattle.content.specs.Calls.{held}

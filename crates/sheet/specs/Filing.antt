@@ -1,13 +1,13 @@
 -- What a call does to a sheet and its buffer.
-use Rattle.std.specs.Prelude.{◌≡◌, ℕ, ◌+◌, ◌^◌, cond, List, ◌++◌, length, take, Ok, Err, Result, nat_le, nat_lt}
+use Rattle.std.specs.Prelude.{◌≡◌, ℕ, ◌+◌, ◌^◌, cond, List, length, take, Ok, Err, Result, nat_le, nat_lt}
 use Rattle.fault.specs.declared.Fault.{Fault}
 use Rattle.fault.specs.declared.Rule.TheVariants.{NoRoom, TooGreat}
 use Rattle.fault.specs.Faults.{fault}
 use Rattle.content.specs.Calls.{Content, held}
 use Rattle.content.specs.Held.{held_item}
 use Rattle.record.specs.Layout.{Column, column_layout}
-use Rattle.wire.specs.Bytes.{put, over}
-use Rattle.wire.specs.Encoding.{Encoding, room_for, laid}
+use Rattle.wire.specs.Bytes.{put}
+use Rattle.wire.specs.Encoding.{Encoding}
 use Rattle.wire.specs.Items.{Item}
 use Rattle.wire.specs.Words.{be, then}
 use Rattle.sheet.specs.declared.sheet.Sheet.{Sheet}

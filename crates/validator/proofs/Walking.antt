@@ -1,10 +1,10 @@
 -- Steps of a cursor that is read to the end.
-use Rattle.std.proofs.Common.{◌≡◌, ℕ, zero, suc, ◌+◌, ◌-◌, ◌<◌, ◌≤◌, Bool, true, false, cond, eqb, ltb, List, length, Some, None, Ok, Err, Option, Result, sym, refl, ap, ◌∙◌, arith}
+use Rattle.std.proofs.Common.{◌≡◌, ℕ, suc, ◌+◌, Bool, true, false, cond, eqb, ltb, length, Some, None, Ok, Err, Option, Result, sym, refl, ap, ◌∙◌, arith}
 use Rattle.std.proofs.lemmas.Bool.{eqb-false}
 use Rattle.fault.specs.declared.Fault.{Fault}
 use Rattle.fault.specs.declared.Rule.TheVariants.{Trailing}
 use Rattle.fault.specs.Faults.{fault}
-use Rattle.wire.specs.Cursor.{State, Reader, Answer, failed, taken, ended, next_of, step}
+use Rattle.wire.specs.Cursor.{State, Reader, failed, taken, ended, next_of, step}
 use Rattle.wire.specs.Words.{then}
 use Rattle.validator.specs.Verdicts.{Outcome, stepped, steps, to_end}
 

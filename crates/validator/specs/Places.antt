@@ -1,15 +1,15 @@
 -- The place of a fault lies within the bytes.
-use Rattle.std.specs.Prelude.{◌≡◌, ℕ, zero, suc, ◌+◌, ◌-◌, ◌*◌, ◌^◌, ◌<◌, ◌≤◌, min, Bool, true, false, cond, List, length, take, drop, ℤ, pos, negsuc, Some, None, Ok, Err, Result, nat_le, nat_lt, refl}
+use Rattle.std.specs.Prelude.{◌≡◌, ℕ, zero, suc, ◌+◌, ◌-◌, ◌*◌, ◌^◌, ◌≤◌, Bool, true, false, cond, List, length, take, drop, ℤ, pos, negsuc, Some, None, Ok, Err, Result, nat_le, nat_lt, refl}
 use Rattle.std.proofs.Common.{sym, ap, subst, ◌∙◌, arith}
 use Rattle.std.specs.Int.{Width, w32}
 use Rattle.std.proofs.lemmas.List.{length-take-le, length-drop}
-use Rattle.std.proofs.lemmas.Bool.{cond_both, cond-false, leb-true, ltb-true, ltb-false, ne_eqb}
+use Rattle.std.proofs.lemmas.Bool.{cond_both, cond-false, leb-true, ne_eqb}
 use Rattle.fault.specs.declared.Fault.{Fault}
 use Rattle.fault.specs.declared.Rule.TheVariants.{Truncated, Overrun, Trailing, Product}
-use Rattle.fault.specs.Faults.{fault, up}
-use Rattle.wire.specs.Cursor.{State, Reader, Answer, failed, taken, ended, step, before, sized, read_nullable}
+use Rattle.fault.specs.Faults.{fault}
+use Rattle.wire.specs.Cursor.{State, Reader, Answer, failed, taken, step, before, sized, read_nullable}
 use Rattle.wire.specs.Items.{nullable}
-use Rattle.wire.specs.Words.{Value, then, word, uint_at, signed, i32_at, u8_at, u32_at, natural, count_at, payload_at, value_of, value_at}
+use Rattle.wire.specs.Words.{Value, then, word, uint_at, signed, i32_at, u8_at, u32_at, natural, count_at, value_of, value_at}
 use Rattle.wire.proofs.Taking.{then_ok, passed, uint_ok, i32_ok, count_ok}
 use Rattle.array.specs.Recv.{Opened, opened_with, product_at, product_from, array_recv, at_values}
 use Rattle.range.specs.declared.bound.RangeBound.{RangeBound}

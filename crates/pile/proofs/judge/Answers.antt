@@ -1,4 +1,3 @@
-use Rattle.pile.proofs.Deep.{reads_back}
 use Rattle.pile.proofs.Agree.{reads_exactly}
 use Rattle.pile.proofs.judge.Goals as goal
 

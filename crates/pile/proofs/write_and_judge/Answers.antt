@@ -1,4 +1,4 @@
-use Rattle.std.proofs.Common.{◌≡◌, ℕ, ◌-◌, length, take, Some, Ok, sym, ap, ◌∙◌, arith}
+use Rattle.std.proofs.Common.{◌≡◌, ◌-◌, length, take, Some, Ok, sym, ap, ◌∙◌, arith}
 use Rattle.serializer.specs.Lists.{item_at}
 use Rattle.wire.specs.Items.{size_of}
 use Rattle.pile.proofs.Judging.{item_judged}

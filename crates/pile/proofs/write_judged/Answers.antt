@@ -1,4 +1,4 @@
-use Rattle.std.proofs.Common.{◌≡◌, length, sym, subst}
+use Rattle.std.proofs.Common.{length, sym, subst}
 use Rattle.serializer.specs.Lists.{item_at}
 use Rattle.wire.specs.Items.{fitting}
 use Rattle.pile.specs.Match.{NotRefused}

@@ -1,4 +1,4 @@
-use Rattle.std.proofs.Common.{min, take, Ok, vec_items, sym, ap, ◌∙◌}
+use Rattle.std.proofs.Common.{take, Ok, vec_items, sym, ap, ◌∙◌}
 use Rattle.answers.specs.Plain.{wrote, held}
 use Rattle.answers.proofs.Answering.{says, take_min}
 use Rattle.answers.proofs.written.print_written.Goals as goal

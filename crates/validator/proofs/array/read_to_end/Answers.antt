@@ -1,9 +1,9 @@
-use Rattle.std.proofs.Common.{◌≡◌, ℕ, ◌+◌, length, Some, Ok, sym, refl, ap, ◌∙◌, arith, rules}
+use Rattle.std.proofs.Common.{◌≡◌, length, Some, Ok, sym, ap, ◌∙◌, arith}
 use Rattle.std.specs.Option.{option_map}
 use Rattle.arrayview.specs.Views.{values_state, told_value}
 use Rattle.wire.specs.Cursor.{State, step, read_nullable}
 use Rattle.wire.specs.Items.{nullable}
-use Rattle.wire.specs.Words.{Value, value_at, then}
+use Rattle.wire.specs.Words.{value_at, then}
 use Rattle.validator.specs.Places.{sized_ok, value_fits}
 use Rattle.validator.specs.Verdicts.{handed, to_end}
 use Rattle.validator.proofs.Walking.{took, to_end_on}

@@ -1,4 +1,4 @@
-use Rattle.std.proofs.Common.{◌≡◌, sym, ap, ◌∙◌}
+use Rattle.std.proofs.Common.{sym, ap, ◌∙◌}
 use Rattle.array.specs.Encoding.{counted}
 use Rattle.content.proofs.Arrays.{content_fits}
 use Rattle.content.proofs.array.ArrayContentEncoded.size.Goals as goal

@@ -1,4 +1,4 @@
-use Rattle.std.proofs.Common.{◌≡◌, length, sym, ap, ◌∙◌}
+use Rattle.std.proofs.Common.{length, sym, ap, ◌∙◌}
 use Rattle.wire.specs.Encoding.{told, laid, room_for}
 use Rattle.content.proofs.Arrays.{content_fits}
 use Rattle.content.proofs.array.ArrayContentEncoded.write.Goals as goal

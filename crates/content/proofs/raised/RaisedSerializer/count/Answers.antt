@@ -1,4 +1,3 @@
-use Rattle.std.proofs.Common.{map, length, sym, ◌∙◌}
 use Rattle.std.proofs.lemmas.List.{length-map}
 use Rattle.content.proofs.raised.RaisedSerializer.count.Goals as goal
 

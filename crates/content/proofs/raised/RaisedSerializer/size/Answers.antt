@@ -1,4 +1,4 @@
-use Rattle.std.proofs.Common.{◌≡◌, Err, sym, ap, ◌∙◌, arith}
+use Rattle.std.proofs.Common.{Err, sym, ap, ◌∙◌, arith}
 use Rattle.serializer.specs.Lists.{item_at}
 use Rattle.wire.specs.Items.{size_of}
 use Rattle.rows.proofs.Windowing.{size_above, fault_above}

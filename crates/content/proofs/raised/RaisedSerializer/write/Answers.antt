@@ -1,4 +1,4 @@
-use Rattle.std.proofs.Common.{◌≡◌, length, Err, sym, ap, ◌∙◌, arith}
+use Rattle.std.proofs.Common.{length, Err, sym, ap, ◌∙◌, arith}
 use Rattle.serializer.specs.Lists.{item_at}
 use Rattle.wire.specs.Items.{null_of, fitting, filled}
 use Rattle.rows.proofs.Windowing.{sized_above, written_above, fault_above, fault_leaves}

@@ -1,7 +1,7 @@
-use Rattle.std.proofs.Common.{◌≡◌, ℕ, length, Err, sym, ap, ◌∙◌}
+use Rattle.std.proofs.Common.{length, Err, sym, ap, ◌∙◌}
 use Rattle.std.proofs.lemmas.Result.{err_from_is_err_and}
 use Rattle.serializer.specs.Lists.{item_at}
-use Rattle.wire.specs.Items.{Item, null_of, fitting, filled}
+use Rattle.wire.specs.Items.{null_of, fitting, filled}
 use Rattle.rows.proofs.Windowing.{numbered, unnumbered, sized_above, written_above, fault_above, fault_leaves}
 use Rattle.rows.proofs.window.WindowSerializer.write.Goals as goal
 
