@@ -2,7 +2,7 @@
 use Rattle.std.proofs.Common.{◌≡◌, ℕ, ◌+◌, ◌^◌, ◌<◌, ◌≤◌, Bool, true, false, cond, ltb, leb, List, [], ◌∷◌, ◌++◌, length, take, drop, Some, None, Ok, Err, Result, sym, refl, ap, ◌∙◌, subst, arith, lit<}
 use Rattle.std.proofs.lemmas.List.{append_assoc, length-append, length-drop, length-map, length_push, length-take-le, map-append, take-append-drop, take_at, take-take, flat_map_more}
 use Rattle.std.proofs.lemmas.Bool.{leb-true, ltb-true, cond-true, le-leb}
-use Rattle.std.specs.List.{AllByRecursion as All}
+use Rattle.std.specs.List.{AllByRecursion}
 use Rattle.fault.specs.declared.Fault.{Fault}
 use Rattle.fault.specs.declared.Rule.TheVariants.{NoRoom, TooGreat}
 use Rattle.fault.specs.Faults.{fault}
@@ -36,11 +36,11 @@ pub record Holds (B : Book) (s : Sheet) (b : List ℕ) : Type 0 where
   pub few : length B < 2 ^ 31
   pub room : s.fill ≤ length b
   pub bytes : sheet_bytes s b ≡ record_layout (cells B)
-  pub sound : All Sound (cells B)
-  pub reads : All (λ c. ReadsAs c.1 (value_of c.1)) B
+  pub sound : AllByRecursion Sound (cells B)
+  pub reads : AllByRecursion (λ c. ReadsAs c.1 (value_of c.1)) B
 
 -- a column more, behind the others
-all_push : {X : Type 0} (P : X → Type 0) (xs : List X) (x : X) → All P xs → P x → All P (xs ++ (x ∷ []))
+all_push : {X : Type 0} (P : X → Type 0) (xs : List X) (x : X) → AllByRecursion P xs → P x → AllByRecursion P (xs ++ (x ∷ []))
 all_push P [] x all p = (p, tt)
 all_push P (y ∷ ys) x all p = (all.0, all_push P ys x all.1 p)
 
@@ -139,7 +139,7 @@ module _ (B : Book) (s t : Sheet) (b d : List ℕ) (c : Call) (r : Result (Unit 
         few = omega (arith, length_push B (c.oid, h), ok.0);
         room = omega (arith, long, fits);
         bytes = whole;
-        sound = subst (All Sound) (sym (cells_push B c.oid h)) (all_push Sound cs (c.oid, value_of h) holds.sound (typed, short));
+        sound = subst (AllByRecursion Sound) (sym (cells_push B c.oid h)) (all_push Sound cs (c.oid, value_of h) holds.sound (typed, short));
         reads = all_push (λ x. ReadsAs x.1 (value_of x.1)) B (c.oid, h) holds.reads reads;
       } in
       (did.answer ∙ ap told_filed is, subst (λ x. Holds (B ++ ((c.oid, h) ∷ [])) x (d ++ drop c.room b)) (sym same) all)
@@ -167,7 +167,7 @@ pub record Lived (B : Book) (cs : List Done) (s : Sheet) (b : List ℕ) : Type 0
   pub answers : ByTheRules B cs
   pub holds : Holds (book_from B (calls cs)) s b
 
-lives : {s t : Sheet} {b d : List ℕ} {cs : List Done} → Run s b cs t d → (B : Book) → All Typed cs → Holds B s b → Lived B cs t d
+lives : {s t : Sheet} {b d : List ℕ} {cs : List Done} → Run s b cs t d → (B : Book) → AllByRecursion Typed cs → Holds B s b → Lived B cs t d
 lives end B typed holds = record { answers = tt; holds = holds }
 lives (call {s = s} {t = t} {b = b} {d = d} {c = c} {r = r} within did rest) B typed holds =
     let one = step B s t b d c r holds within did typed.0.0 typed.0.1 in
@@ -194,7 +194,7 @@ blank_holds start s e =
     } in
     subst (λ x. Holds [] x (laid (room_for (length start) (Ok blank_bytes)) start)) (sym k.1) (subst (Holds [] (sheet 4 0)) (sym fits) all)
 
-columns_as : (B : Book) → All (λ c. ReadsAs c.1 (value_of c.1)) B → ColumnsAs B (cells B)
+columns_as : (B : Book) → AllByRecursion (λ c. ReadsAs c.1 (value_of c.1)) B → ColumnsAs B (cells B)
 columns_as [] all = reading.none
 columns_as (c ∷ B) all = reading.one all.0 (columns_as B all.1)
 
@@ -204,10 +204,10 @@ holds_reads B s b h =
     let count : length (cells B) < 2 ^ 31 = omega (arith, length-map B cell, h.few) in
     subst (λ l. SheetReads l B) (sym h.bytes) (record { columns = cells B; opens = record_back (cells B) count h.sound; each = columns_as B h.reads })
 
-pub lived : (cs : List Done) (s : Sheet) (b : List ℕ) → All Typed cs → Filed cs s b → Lived [] cs s b
+pub lived : (cs : List Done) (s : Sheet) (b : List ℕ) → AllByRecursion Typed cs → Filed cs s b → Lived [] cs s b
 lived cs s b typed f = lives f.run [] typed (blank_holds f.start f.first f.blank)
 
-pub book_kept : (s : Sheet) (b : List ℕ) (cs : List Done) → All Typed cs → Filed cs s b → KeptBook cs s b
+pub book_kept : (s : Sheet) (b : List ℕ) (cs : List Done) → AllByRecursion Typed cs → Filed cs s b → KeptBook cs s b
 book_kept s b cs typed f =
     let l = lived cs s b typed f in
     record { answers = l.answers; reads = holds_reads (book (calls cs)) s b l.holds }

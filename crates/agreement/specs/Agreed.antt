@@ -1,6 +1,6 @@
 -- One result for everyone: what holds after every life of a sheet.
 use Rattle.std.specs.Prelude.{◌≡◌, ℕ, ◌↔◌, List, [], ◌∷◌}
-use Rattle.std.specs.List.{AllByRecursion as All}
+use Rattle.std.specs.List.{AllByRecursion}
 use Rattle.pile.specs.Back.{ReadsBack}
 use Rattle.pile.specs.Match.{AcceptsAll, Matching}
 use Rattle.pile.specs.Piles.{ReadsExactly}
@@ -23,11 +23,11 @@ pub record KeptBook (cs : List Done) (s : Sheet) (b : List ℕ) : Type 0 where
   pub reads : SheetReads (sheet_bytes s b) (book (calls cs))
 
 abbrev pub BookKept : Sheet → List ℕ → Type 0
-BookKept s b = (cs : List Done) → All Typed cs → Filed cs s b → KeptBook cs s b
+BookKept s b = (cs : List Done) → AllByRecursion Typed cs → Filed cs s b → KeptBook cs s b
 
 -- two sheets that took the same kinds in the same order hold equal bytes exactly when their books are equal
 abbrev pub EqualBytes : Sheet → List ℕ → Sheet → List ℕ → Type 0
-EqualBytes s b t d = (cs ds : List Done) → All Typed cs → All Typed ds → Filed cs s b → Filed ds t d → SameKinds (book (calls cs)) (book (calls ds)) → (sheet_bytes s b ≡ sheet_bytes t d) ↔ (book (calls cs) ≡ book (calls ds))
+EqualBytes s b t d = (cs ds : List Done) → AllByRecursion Typed cs → AllByRecursion Typed ds → Filed cs s b → Filed ds t d → SameKinds (book (calls cs)) (book (calls ds)) → (sheet_bytes s b ≡ sheet_bytes t d) ↔ (book (calls cs) ≡ book (calls ds))
 
 -- the statement about piles, for a serializer by its items and a validator by its verdict: what the validator says is what reading to the end at every level meets; where the two are matching piles, every payload is accepted; and what a pile writes reads back as its rows, down to the items of its bottom
 pub record Piles (items : List Item) (v : Verdict) : Type 0 where

@@ -1,6 +1,6 @@
 -- The life of a sheet: blank, then any calls in any order, refused ones included.
 use Rattle.std.specs.Prelude.{◌≡◌, ℕ, ◌^◌, ◌<◌, ◌≤◌, List, [], ◌∷◌, ◌++◌, map, length, take, drop, Ok, Result}
-use Rattle.std.specs.List.{AllByRecursion as All}
+use Rattle.std.specs.List.{AllByRecursion}
 use Rattle.fault.specs.declared.Fault.{Fault}
 use Rattle.array.specs.Laws.{Words}
 use Rattle.content.specs.Calls.{Content, null, column, array, range, empty_range, hstore, varbit, point, box, path, inet}
@@ -33,14 +33,14 @@ pub record Filed (cs : List Done) (s : Sheet) (b : List ℕ) : Type 0 where
 abbrev pub TypedContent : Content → Type 0
 TypedContent null = Unit {0}
 TypedContent (column is k) = (j : ℕ) → Short (item_at is j)
-TypedContent (array oid ds is) = (oid < 2 ^ 32) × All Words ds × ((j : ℕ) → Short (item_at is j))
+TypedContent (array oid ds is) = (oid < 2 ^ 32) × AllByRecursion Words ds × ((j : ℕ) → Short (item_at is j))
 TypedContent (range lower upper is) = (j : ℕ) → Short (item_at is j)
 TypedContent empty_range = Unit {0}
 TypedContent (hstore ps es) = Unit {0}
 TypedContent (varbit bits bytes) = Unit {0}
 TypedContent (point p) = Doubles p
 TypedContent (box b) = Doubles b.upper_right × Doubles b.lower_left
-TypedContent (path closed ps) = All Doubles ps
+TypedContent (path closed ps) = AllByRecursion Doubles ps
 TypedContent (inet a mask) = Whole a
 
 abbrev pub Typed : Done → Type 0

@@ -3,7 +3,7 @@ use Rattle.std.proofs.Common.{◌≡◌, ℕ, suc, ◌+◌, ◌*◌, ◌^◌, �
 use Rattle.std.proofs.lemmas.List.{append_assoc, length-append, take_at}
 use Rattle.std.proofs.lemmas.Int.{to_z_pos}
 use Rattle.std.proofs.lemmas.Bool.{cond-true, cond-false, lt-ltb, ltb-true, ne_eqb}
-use Rattle.std.specs.List.{AllByRecursion as All}
+use Rattle.std.specs.List.{AllByRecursion}
 use Rattle.wire.specs.Cursor.{Reads, Row, Nullable, read_nullable, before}
 use Rattle.wire.specs.Words.{Value, then, be, i32_at, u32_at, natural, count_at}
 use Rattle.wire.proofs.Cursors.{reads_row}
@@ -42,7 +42,7 @@ factor_back bs at p n lower first second below =
     )
 
 -- the product of dimensions that stand behind others
-product_back : (ds : List ArrayDimension) (pre rest : List ℕ) (p q : ℕ) → All Words ds → product (Some p) ds ≡ Some q → product_from (length ds) (pre ++ (dimensions ds ++ rest)) (length pre) p ≡ Ok q
+product_back : (ds : List ArrayDimension) (pre rest : List ℕ) (p q : ℕ) → AllByRecursion Words ds → product (Some p) ds ≡ Some q → product_from (length ds) (pre ++ (dimensions ds ++ rest)) (length pre) p ≡ Ok q
 product_back [] pre rest p q words e = cc
 product_back (d ∷ ds) pre rest p q (here, others) e =
     let t = times_some p d.len ds q e in

@@ -3,7 +3,7 @@ use Rattle.std.proofs.Common.{◌≡◌, ℕ, ◌+◌, ◌*◌, ◌^◌, ◌<◌
 use mir.Facts.{Fits-of_z, sfits_to_z}
 use Rattle.std.proofs.lemmas.List.{append_assoc, length-append, drop-drop, take-append-drop}
 use Rattle.std.proofs.lemmas.Int.{to_z-of_z, of_z-to_z}
-use Rattle.std.specs.List.{AllByRecursion as All}
+use Rattle.std.specs.List.{AllByRecursion}
 use Rattle.wire.specs.Bytes.{Octets}
 use Rattle.wire.specs.Cursor.{Row, none, one, ReadsForms}
 use Rattle.wire.specs.Words.{then, be, word, int, i32_at}
@@ -94,7 +94,7 @@ dimension_formed bs at n d small e =
 pub dimension_forms : ReadsForms read_dimension Dimension
 dimension_forms = record { reads = dimension_back; formed = dimension_formed }
 
-pub dimension_row : (ds : List ArrayDimension) → All Words ds → Row Dimension ds (dimensions ds)
+pub dimension_row : (ds : List ArrayDimension) → AllByRecursion Words ds → Row Dimension ds (dimensions ds)
 dimension_row [] words = none
 dimension_row (d ∷ ds) (here, others) = one (refl, here) (dimension_row ds others)
 

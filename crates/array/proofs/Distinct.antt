@@ -3,7 +3,7 @@ use Rattle.std.proofs.Common.{◌≡◌, ℕ, ◌*◌, ◌≤◌, List, [], ◌�
 use mir.Facts.{Fits-of_z}
 use Rattle.std.proofs.lemmas.List.{append_cancel_left, take_at, drop_at}
 use Rattle.std.proofs.lemmas.Int.{to_z-of_z}
-use Rattle.std.specs.List.{AllByRecursion as All}
+use Rattle.std.specs.List.{AllByRecursion}
 use Rattle.wire.specs.Cursor.{read_nullable}
 use Rattle.wire.specs.Items.{Within, nullable}
 use Rattle.wire.specs.Words.{Value, int}
@@ -18,7 +18,7 @@ use Rattle.array.proofs.Dimensions.{length_dimensions}
 int_same : (y z : ℤ) → SFits w32 y → SFits w32 z → int y ≡ int z → y ≡ z
 int_same y z p q e = sym (to_z-of_z w32 y p) ∙ ap (to_z w32) (be_same 4 (of_z w32 y) (of_z w32 z) (Fits-of_z p).fits (Fits-of_z q).fits e) ∙ to_z-of_z w32 z q
 
-same_dimensions : (cs ds : List ArrayDimension) → All Words cs → All Words ds → dimensions cs ≡ dimensions ds → cs ≡ ds
+same_dimensions : (cs ds : List ArrayDimension) → AllByRecursion Words cs → AllByRecursion Words ds → dimensions cs ≡ dimensions ds → cs ≡ ds
 same_dimensions [] [] p q e = refl
 same_dimensions [] (d ∷ ds) p q e = let l = ap length e in absurd (omega arith)
 same_dimensions (c ∷ cs) [] p q e = let l = ap length e in absurd (omega arith)
@@ -42,7 +42,7 @@ some_bytes : (v : Value) (rest : List ℕ) → 4 ≤ length (nullable v ++ rest)
 some_bytes None rest = omega arith
 some_bytes (Some bs) rest = omega arith
 
-pub same_elements : (vs ws : List Value) → All (λ v. Within 2147483647 (Ok v)) vs → All (λ v. Within 2147483647 (Ok v)) ws → elements vs ≡ elements ws → vs ≡ ws
+pub same_elements : (vs ws : List Value) → AllByRecursion (λ v. Within 2147483647 (Ok v)) vs → AllByRecursion (λ v. Within 2147483647 (Ok v)) ws → elements vs ≡ elements ws → vs ≡ ws
 same_elements [] [] p q e = refl
 same_elements [] (w ∷ ws) p q e = absurd (omega (arith, ap length e, some_bytes w (elements ws)))
 same_elements (v ∷ vs) [] p q e = absurd (omega (arith, ap length e, some_bytes v (elements vs)))

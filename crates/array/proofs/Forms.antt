@@ -2,7 +2,7 @@
 use Rattle.std.proofs.Common.{◌≡◌, ℕ, zero, suc, ◌+◌, ◌*◌, ◌^◌, ◌<◌, ◌≤◌, cond, not, eqb, List, [], ◌∷◌, ◌++◌, length, drop, pos, Some, Ok, sym, refl, ap, ◌∙◌, subst, arith, w32, to_z}
 use Rattle.std.proofs.lemmas.Int.{to_z_pos}
 use Rattle.std.proofs.lemmas.Bool.{cond-true, cond-false, lt-ltb, ne_eqb}
-use Rattle.std.specs.List.{AllByRecursion as All}
+use Rattle.std.specs.List.{AllByRecursion}
 use Rattle.wire.specs.Bytes.{Octets}
 use Rattle.wire.specs.Cursor.{Reads, Nullable, read_nullable}
 use Rattle.wire.specs.Words.{Value, then, be, word, u32_at, count_at}
@@ -23,7 +23,7 @@ record Made (n : ℕ) (bs : List ℕ) (at p q : ℕ) : Type 0 where
   count : length ds ≡ n
   room : at + 8 * n ≤ length bs
   cut : drop at bs ≡ dimensions ds ++ drop (at + 8 * n) bs
-  words : All Words ds
+  words : AllByRecursion Words ds
   made : product (Some p) ds ≡ Some q
 
 -- one dimension more, in front

@@ -1,7 +1,7 @@
 -- What ties writing, opening and reading an array together.
 use Rattle.std.specs.Prelude.{◌≡◌, ℕ, ◌*◌, ◌^◌, ◌<◌, Bool, cond, not, List, [], ◌∷◌, length, ℤ, pos, negsuc, Some, None, Ok, Option, FitsSigned, ◌==◌, nat_lt}
 use Rattle.std.specs.Int.{w32}
-use Rattle.std.specs.List.{AllByRecursion as All}
+use Rattle.std.specs.List.{AllByRecursion}
 use Rattle.wire.specs.Cursor.{Reads, Row, Nullable, read_nullable}
 use Rattle.wire.specs.Items.{Within}
 use Rattle.wire.specs.Words.{Value}
@@ -30,7 +30,7 @@ Words d = FitsSigned w32 d.len × FitsSigned w32 d.lower_bound
 
 -- dimensions, an element OID and as many elements as the dimensions make
 pub record Sound (ds : List ArrayDimension) (oid : ℕ) (vs : List Value) : Type 0 where
-  pub words : All Words ds
+  pub words : AllByRecursion Words ds
   pub few : length ds < 2 ^ 31
   pub typed : oid < 2 ^ 32
   pub fits : element_count ds ≡ Some (length vs)
@@ -65,10 +65,10 @@ WrittenBack ds oid vs = Sound ds oid vs → Opens (array_layout ds oid vs) (has_
 
 -- what an array can be written of: dimensions of signed words, a count of them that fits, an OID, and payloads that a length word counts
 pub record Writable (ds : List ArrayDimension) (oid : ℕ) (vs : List Value) : Type 0 where
-  pub words : All Words ds
+  pub words : AllByRecursion Words ds
   pub few : length ds < 2 ^ 31
   pub typed : oid < 2 ^ 32
-  pub short : All (λ v. Within 2147483647 (Ok v)) vs
+  pub short : AllByRecursion (λ v. Within 2147483647 (Ok v)) vs
 
 -- no other dimensions, OID or elements have these bytes
 abbrev pub Distinct : List ArrayDimension → ℕ → List Value → Type 0

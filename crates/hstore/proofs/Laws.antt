@@ -2,7 +2,7 @@
 use Rattle.std.proofs.Common.{◌≡◌, ℕ, ◌+◌, ◌^◌, ◌<◌, List, [], ◌∷◌, ◌++◌, length, take, drop, Some, Ok, sym, refl, ap, ◌∙◌, subst, arith, w32}
 use Rattle.std.proofs.lemmas.List.{append_assoc, append_cancel_left, take-append-drop}
 use Rattle.std.proofs.lemmas.Int.{to_z_pos}
-use Rattle.std.specs.List.{AllByRecursion as All}
+use Rattle.std.specs.List.{AllByRecursion}
 use Rattle.texts.specs.Places.{Bytes}
 use Rattle.wire.specs.Bytes.{Octets}
 use Rattle.wire.specs.Cursor.{Reads, before}
@@ -59,7 +59,7 @@ same_first v w rest more p q e =
     let same : v ≡ w = cc in
     (same, append_cancel_left (nullable w) rest more (ap (λ u. nullable u ++ rest) (sym same) ∙ e))
 
-same_entries : (fs es : List Entry) → All Writable fs → All Writable es → entries_layout fs ≡ entries_layout es → fs ≡ es
+same_entries : (fs es : List Entry) → AllByRecursion Writable fs → AllByRecursion Writable es → entries_layout fs ≡ entries_layout es → fs ≡ es
 same_entries [] [] p q e = refl
 same_entries [] (x ∷ es) p q e = let l = ap length e in absurd (omega arith)
 same_entries (y ∷ fs) [] p q e = let l = ap length e in absurd (omega arith)

@@ -1,7 +1,7 @@
 -- What the texts of entries that were told say of their places.
 use Rattle.std.proofs.Common.{◌≡◌, ℕ, suc, ◌+◌, ◌^◌, ◌<◌, eqb, ltb, List, [], ◌∷◌, ◌++◌, length, Some, None, Ok, Err, Result, sym, refl, ap, ◌∙◌, subst, arith, lit<}
 use Rattle.std.proofs.lemmas.Bool.{cond-true, eq-eqb, eqb-true, ltb-true}
-use Rattle.std.specs.List.{flat_map, AllByRecursion as All}
+use Rattle.std.specs.List.{flat_map, AllByRecursion}
 use Rattle.fault.specs.declared.Fault.{Fault}
 use Rattle.fault.specs.declared.Rule.TheVariants.{NotText, TooGreat}
 use Rattle.fault.specs.Faults.{fault}
@@ -97,7 +97,7 @@ entries_are ps k (h ∷ hs) xs e =
     subst (Tolds ps (h ∷ hs)) same (more_told (entry_is ps k h a.0 a.1) (entries_are ps (k + 1) hs b.0 b.1))
 
 module _ {ps : Bytes} where
-  pub all_named : {hs : List HstoreEntry} {xs : List Entry} → Tolds ps hs xs → All (EntryNamed ps) hs
+  pub all_named : {hs : List HstoreEntry} {xs : List Entry} → Tolds ps hs xs → AllByRecursion (EntryNamed ps) hs
   all_named none_told = tt
   all_named (more_told t ts) = (t.named, all_named ts)
 
@@ -109,7 +109,7 @@ module _ {ps : Bytes} where
   same_count none_told = refl
   same_count (more_told t ts) = ap suc (same_count ts)
 
-  pub all_writable : {hs : List HstoreEntry} {xs : List Entry} → Tolds ps hs xs → All Writable xs
+  pub all_writable : {hs : List HstoreEntry} {xs : List Entry} → Tolds ps hs xs → AllByRecursion Writable xs
   all_writable none_told = tt
   all_writable (more_told {x = x} t ts) =
       let key = t.key.short in

@@ -1,6 +1,6 @@
 -- What ties writing, opening and reading an hstore together.
 use Rattle.std.specs.Prelude.{◌≡◌, ℕ, ◌+◌, ◌^◌, ◌<◌, List, ◌++◌, length, Some, None, Ok}
-use Rattle.std.specs.List.{AllByRecursion as All}
+use Rattle.std.specs.List.{AllByRecursion}
 use Rattle.text.specs.Utf8.{Text}
 use Rattle.texts.specs.Places.{Bytes}
 use Rattle.wire.specs.Cursor.{State, Reads, Row, Nullable}
@@ -57,4 +57,4 @@ pub record Writable (e : Entry) : Type 0 where
 
 -- no other list of entries has the bytes that were written for these
 abbrev pub Distinct : Bytes → List HstoreEntry → Type 0
-Distinct ps hs = (es : List Entry) → entry_texts ps 0 hs ≡ Ok es → length hs < 2 ^ 31 → (fs : List Entry) → length fs < 2 ^ 31 → All Writable fs → hstore_layout fs ≡ hstore_layout es → fs ≡ es
+Distinct ps hs = (es : List Entry) → entry_texts ps 0 hs ≡ Ok es → length hs < 2 ^ 31 → (fs : List Entry) → length fs < 2 ^ 31 → AllByRecursion Writable fs → hstore_layout fs ≡ hstore_layout es → fs ≡ es

@@ -1,6 +1,6 @@
 //! Writing an hstore.
 ghost use Rattle.std.specs.Prelude.{◌≡◌, ◌+◌, ◌≤◌, length, Ok};
-ghost use Rattle.std.specs.List.{flat_map, AllByRecursion as All};
+ghost use Rattle.std.specs.List.{flat_map, AllByRecursion};
 ghost use Rattle.texts.specs.Places.{pool_pair};
 ghost use Rattle.wire.specs.Bytes.{put};
 ghost use Rattle.wire.specs.Encoding.{told, laid, room_for};
@@ -93,7 +93,7 @@ fn measure_entry(pools: Pools<'_>, entry: HstoreEntry, k: usize) -> Result<usize
 
 // Writes every entry behind the count, and answers where they end.
 fn write_entries(pools: Pools<'_>, entries: &[HstoreEntry], part: &mut [u8]) -> Result<usize, Fault>
-    requires texts { All (EntryNamed (pool_pair pools)) entries.now }
+    requires texts { AllByRecursion (EntryNamed (pool_pair pools)) entries.now }
     requires room { 4 + length (flat_map (places_layout (pool_pair pools)) entries.now) ≤ length part.old }
     ensures answer { result ≡ Ok (4 + length (flat_map (places_layout (pool_pair pools.entry)) entries.now)) }
     ensures after { part.new ≡ put 4 (flat_map (places_layout (pool_pair pools.entry)) entries.now) part.old }

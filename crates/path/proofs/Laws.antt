@@ -4,7 +4,7 @@ use lib.Ieee.{binary64}
 use lib.Ieee.Bits.{of_bits-to_bits, to_bits-lt}
 use Rattle.std.proofs.lemmas.List.{append_assoc, length-append, take-append-drop, drop-drop}
 use Rattle.std.proofs.lemmas.Int.{to_z_pos}
-use Rattle.std.specs.List.{AllByRecursion as All}
+use Rattle.std.specs.List.{AllByRecursion}
 use Rattle.fault.specs.declared.Fault.{Fault}
 use Rattle.double.specs.declared.point.Point.{Point}
 use Rattle.double.specs.Doubles.{double_word, word_double}
@@ -116,7 +116,7 @@ point_written p d =
       bytes = refl;
     }
 
-written_row : (ps : List Point) → All Doubles ps → Row PointForm ps (points_layout ps)
+written_row : (ps : List Point) → AllByRecursion Doubles ps → Row PointForm ps (points_layout ps)
 written_row [] d = none
 written_row (p ∷ ps) d = one (point_written p d.0) (written_row ps d.1)
 
@@ -139,7 +139,7 @@ same_closed true false e = absurd (omega arith)
 same_closed false true e = absurd (omega arith)
 same_closed false false e = refl
 
-same_points : (qs ps : List Point) → All Doubles qs → All Doubles ps → points_layout qs ≡ points_layout ps → qs ≡ ps
+same_points : (qs ps : List Point) → AllByRecursion Doubles qs → AllByRecursion Doubles ps → points_layout qs ≡ points_layout ps → qs ≡ ps
 same_points [] [] d f e = refl
 same_points [] (p ∷ ps) d f e = let l = ap length e in absurd (omega arith)
 same_points (q ∷ qs) [] d f e = let l = ap length e in absurd (omega arith)

@@ -1,6 +1,6 @@
 -- What ties writing, opening and reading a path together.
 use Rattle.std.specs.Prelude.{◌≡◌, ℕ, ◌^◌, ◌<◌, Bool, not, List, length, Ok, ◌==◌}
-use Rattle.std.specs.List.{AllByRecursion as All}
+use Rattle.std.specs.List.{AllByRecursion}
 use Rattle.double.specs.declared.point.Point.{Point}
 use Rattle.geometry.specs.Laws.{Doubles, PointForm}
 use Rattle.wire.specs.Cursor.{Reads, Row}
@@ -32,8 +32,8 @@ OnlyForms bs = (o : Opened) (ps : List Point) → path_recv bs ≡ Ok o → Read
 
 -- what was written is opened and read to the end as it was handed in
 abbrev pub WrittenBack : Bool → List Point → Type 0
-WrittenBack closed ps = length ps < 2 ^ 31 → All Doubles ps → Opens (path_layout closed ps) closed ps
+WrittenBack closed ps = length ps < 2 ^ 31 → AllByRecursion Doubles ps → Opens (path_layout closed ps) closed ps
 
 -- no other path has these bytes
 abbrev pub Distinct : Bool → List Point → Type 0
-Distinct closed ps = length ps < 2 ^ 31 → All Doubles ps → (c : Bool) (qs : List Point) → length qs < 2 ^ 31 → All Doubles qs → path_layout c qs ≡ path_layout closed ps → (c ≡ closed) × (qs ≡ ps)
+Distinct closed ps = length ps < 2 ^ 31 → AllByRecursion Doubles ps → (c : Bool) (qs : List Point) → length qs < 2 ^ 31 → AllByRecursion Doubles qs → path_layout c qs ≡ path_layout closed ps → (c ≡ closed) × (qs ≡ ps)

@@ -1,6 +1,6 @@
 -- What a pile writes: a matching pile accepts it, and it reads back as the rows.
 use Rattle.std.proofs.Common.{◌≡◌, ℕ, suc, ◌+◌, ◌^◌, ◌<◌, List, [], ◌∷◌, map, length, get_or, Some, None, Ok, Err, sym, refl, ap, ◌∙◌, subst, arith}
-use Rattle.std.specs.List.{AllByRecursion as All}
+use Rattle.std.specs.List.{AllByRecursion}
 use Rattle.fault.specs.declared.Rule.TheVariants.{Missing}
 use Rattle.fault.specs.Faults.{fault}
 use Rattle.wire.specs.Cursor.{State, Reads, end, more, read_nullable}
@@ -87,7 +87,7 @@ module _ (v : Verdict) (is : List Item) (short : (k : ℕ) → Short (item_at is
       range_accepted f.row bs (f.encoded ∙ ap Ok same))
 
 -- at every depth, over every bottom
-pub pile_accepts : (ls : List Rows) (bottom : List Item) (v : Verdict) → All Typed ls → ((k : ℕ) → Short (item_at bottom k)) → AcceptsAll v bottom → AcceptsAll (pile_verdict (map layer_of ls) v) (pile_items ls bottom)
+pub pile_accepts : (ls : List Rows) (bottom : List Item) (v : Verdict) → AllByRecursion Typed ls → ((k : ℕ) → Short (item_at bottom k)) → AcceptsAll v bottom → AcceptsAll (pile_verdict (map layer_of ls) v) (pile_items ls bottom)
 pile_accepts [] bottom v typed short accepts = accepts
 pile_accepts (l ∷ ls) bottom v typed short accepts =
     layer_accepts (pile_verdict (map layer_of ls) v) (pile_items ls bottom) (pile_short ls bottom short) (pile_accepts ls bottom v typed.1 short accepts) l typed.0
@@ -119,7 +119,7 @@ module _ (below : ReadsItem) (is : List Item) (short : (k : ℕ) → Short (item
       let f = row_of (range_row is) 0 rows k k (fault Missing k) x e in
       record { row = f.row; stands = f.stands; payload = f.bytes; is = f.is; back = range_back f.row f.bytes f.encoded }
 
-pub pile_reads : (ls : List Rows) (bottom : List Item) → All Typed ls → ((k : ℕ) → Short (item_at bottom k)) → (k : ℕ) (x : Value) → item_at (pile_items ls bottom) k ≡ Ok x → pile_back ls bottom k x
+pub pile_reads : (ls : List Rows) (bottom : List Item) → AllByRecursion Typed ls → ((k : ℕ) → Short (item_at bottom k)) → (k : ℕ) (x : Value) → item_at (pile_items ls bottom) k ≡ Ok x → pile_back ls bottom k x
 pile_reads [] bottom typed short k x e = e
 pile_reads (l ∷ ls) bottom typed short k x e =
     layer_reads (pile_back ls bottom) (pile_items ls bottom) (pile_short ls bottom short) (pile_reads ls bottom typed.1 short) l typed.0 k x e

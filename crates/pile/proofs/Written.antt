@@ -1,7 +1,7 @@
 -- What the rows of a layer write, and how it is read.
 use Rattle.std.proofs.Common.{◌≡◌, ℕ, zero, suc, ◌+◌, ◌*◌, ◌^◌, ◌<◌, ◌≤◌, Bool, true, false, cond, ltb, List, [], ◌∷◌, length, get_or, pos, Some, None, Ok, Err, Option, Result, sym, refl, ap, ◌∙◌, subst, arith}
 use Rattle.std.proofs.lemmas.Bool.{cond-true, cond-false, lt-ltb, ne_eqb}
-use Rattle.std.specs.List.{AllByRecursion as All}
+use Rattle.std.specs.List.{AllByRecursion}
 use Rattle.fault.specs.declared.Fault.{Fault}
 use Rattle.fault.specs.declared.Rule.TheVariants.{TooGreat}
 use Rattle.fault.specs.Faults.{fault}
@@ -44,7 +44,7 @@ row_of encode n (r ∷ rs) m (suc k) f v e =
     record { row = t.row; stands = t.stands; bytes = t.bytes; encoded = t.encoded; is = t.is }
 
 -- the rows that stand have the property that all have
-pub row_has : {R : Type 0} (P : R → Type 0) (rs : List R) (m k : ℕ) (r : R) → All P rs → row_from m k rs ≡ Ok r → P r
+pub row_has : {R : Type 0} (P : R → Type 0) (rs : List R) (m k : ℕ) (r : R) → AllByRecursion P rs → row_from m k rs ≡ Ok r → P r
 row_has P [] m k r all e = let z : ◌≡◌ {A = ℕ} 0 1 = cc in absurd (omega arith)
 row_has P (x ∷ rs) m zero r all e = let same : x ≡ r = cc in subst P same all.0
 row_has P (x ∷ rs) m (suc k) r all e = row_has P rs m k r all.1 e
@@ -78,9 +78,9 @@ seen is first (suc n) none = seen_more is first n (item_at is first) refl (seen 
 one_dimension : (n : ℕ) → row_dimensions (suc n) ≡ record { len = pos (suc n); lower_bound = pos 1 } ∷ []
 one_dimension n = cond-false _ _ _ (ne_eqb (suc n) 0 (λ z. omega arith))
 
-dimension_words : (n : ℕ) → n < 2 ^ 16 → All Words (row_dimensions n)
+dimension_words : (n : ℕ) → n < 2 ^ 16 → AllByRecursion Words (row_dimensions n)
 dimension_words zero h = tt
-dimension_words (suc n) h = subst (All Words) (sym (one_dimension n)) ((record { sfits = omega arith }, record { sfits = omega arith }), tt)
+dimension_words (suc n) h = subst (AllByRecursion Words) (sym (one_dimension n)) ((record { sfits = omega arith }, record { sfits = omega arith }), tt)
 
 dimension_few : (n : ℕ) → length (row_dimensions n) ≤ 1
 dimension_few zero = omega arith

@@ -10,7 +10,7 @@ use Rattle.rows.specs.declared.row.RangeRow.{RangeRow}
 use Rattle.rows.specs.declared.row.RangeRow.TheVariants.{Empty, Bounds}
 use Rattle.rows.specs.Rows.{row_dimensions}
 use Rattle.rows.specs.Tables.{row_at}
-use Rattle.std.specs.List.{AllByRecursion as All}
+use Rattle.std.specs.List.{AllByRecursion}
 use Rattle.serializer.specs.Lists.{Short, item_at}
 use Rattle.wire.specs.Items.{Item}
 use Rattle.wire.specs.Words.{Value}
@@ -57,4 +57,4 @@ pile_back (l ∷ ls) bottom k v = layer_back l (pile_back ls bottom) k v
 
 -- where items are those of a pile, the value of item k reads back as it
 abbrev pub ReadsBack : List Item → ℕ → Type 0
-ReadsBack items k = (ls : List Rows) (bottom : List Item) → All Typed ls → ((j : ℕ) → Short (item_at bottom j)) → items ≡ pile_items ls bottom → (v : Value) → item_at items k ≡ Ok v → pile_back ls bottom k v
+ReadsBack items k = (ls : List Rows) (bottom : List Item) → AllByRecursion Typed ls → ((j : ℕ) → Short (item_at bottom j)) → items ≡ pile_items ls bottom → (v : Value) → item_at items k ≡ Ok v → pile_back ls bottom k v

@@ -1,6 +1,6 @@
 -- A pile of validators over what a pile of serializers writes.
 use Rattle.std.specs.Prelude.{◌≡◌, ℕ, List, map, Some, None, Ok, Err, Option, Result}
-use Rattle.std.specs.List.{AllByRecursion as All}
+use Rattle.std.specs.List.{AllByRecursion}
 use Rattle.serializer.specs.Lists.{Short, item_at}
 use Rattle.fault.specs.declared.Fault.{Fault}
 use Rattle.wire.specs.Items.{Item}
@@ -20,7 +20,7 @@ AcceptsAll v is = (k : ℕ) → Accepts v (item_at is k)
 -- items and a verdict are those of a pile of serializers and a pile of validators with the same layers in the same order, and the bottom of the one accepts every payload of the other's
 pub record Matching (items : List Item) (v : Verdict) : Type 0 where
   pub layers : List Rows
-  pub typed : All Typed layers
+  pub typed : AllByRecursion Typed layers
   pub bottom : List Item
   pub below : Verdict
   pub writes : items ≡ pile_items layers bottom

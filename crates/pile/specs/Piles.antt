@@ -1,6 +1,6 @@
 -- Piles: any serializer or validator, its bottom, under layers in any number.
 use Rattle.std.specs.Prelude.{◌≡◌, ℕ, ◌^◌, ◌<◌, ◌↔◌, List, [], ◌∷◌}
-use Rattle.std.specs.List.{AllByRecursion as All}
+use Rattle.std.specs.List.{AllByRecursion}
 use Rattle.wire.specs.Items.{Item}
 use Rattle.rows.specs.declared.row.ArrayRow.{ArrayRow}
 use Rattle.rows.specs.declared.row.RangeRow.{RangeRow}
@@ -61,5 +61,5 @@ layer_of (range_rows rows) = ranges
 
 -- an OID of 32 bits, and numbers of items of 16
 abbrev pub Typed : Rows → Type 0
-Typed (array_rows oid rows) = (oid < 2 ^ 32) × All (λ r. r.count < 2 ^ 16) rows
+Typed (array_rows oid rows) = (oid < 2 ^ 32) × AllByRecursion (λ r. r.count < 2 ^ 16) rows
 Typed (range_rows rows) = Unit {0}

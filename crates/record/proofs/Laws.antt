@@ -2,7 +2,7 @@
 use Rattle.std.proofs.Common.{◌≡◌, ℕ, ◌+◌, ◌^◌, ◌<◌, ◌≤◌, List, [], ◌∷◌, ◌++◌, length, take, drop, Ok, Err, Result, sym, refl, ap, ◌∙◌, subst, arith, take-add, w32}
 use Rattle.std.proofs.lemmas.List.{append_assoc, length-append, take-append-drop, drop-drop}
 use Rattle.std.proofs.lemmas.Int.{to_z_pos}
-use Rattle.std.specs.List.{AllByRecursion as All}
+use Rattle.std.specs.List.{AllByRecursion}
 use Rattle.fault.specs.declared.Fault.{Fault}
 use Rattle.wire.specs.Bytes.{Octets}
 use Rattle.wire.specs.Cursor.{ReadsForms, Row, none, one, Reads, before, sized}
@@ -112,9 +112,9 @@ only_forms bs small cs o =
     }
 
 -- columns as they are written have one of their forms, and are read back
-pub written_row : (cs : List Column) → All (λ c. (c.0 < 2 ^ 32) × Within 2147483647 (Ok c.1)) cs → Row ColumnForm cs (columns_layout cs)
+pub written_row : (cs : List Column) → AllByRecursion (λ c. (c.0 < 2 ^ 32) × Within 2147483647 (Ok c.1)) cs → Row ColumnForm cs (columns_layout cs)
 written_row [] fit = none
 written_row (c ∷ cs) fit = one (record { typed = fit.0.0; last = nullable c.1; value_form = nullable_written c.1 fit.0.1; whole = refl }) (written_row cs fit.1)
 
-pub record_back : (cs : List Column) → length cs < 2 ^ 31 → All (λ c. (c.0 < 2 ^ 32) × Within 2147483647 (Ok c.1)) cs → Opens (record_layout cs) cs
+pub record_back : (cs : List Column) → length cs < 2 ^ 31 → AllByRecursion (λ c. (c.0 < 2 ^ 32) × Within 2147483647 (Ok c.1)) cs → Opens (record_layout cs) cs
 record_back cs few fit = reads_back (record_layout cs) cs (record { few = few; last = columns_layout cs; whole = refl; row = written_row cs fit })

@@ -4,7 +4,7 @@ use lib.Utf8.{encode}
 use Rattle.std.proofs.lemmas.List.{length-take-le, take_all, drop-drop}
 use Rattle.std.proofs.lemmas.Bool.{cases_lt, cond-true, cond-false, eq-eqb, ne_eqb}
 use Rattle.std.proofs.lemmas.Str.{length-encode, len_utf8_bounds}
-use Rattle.std.specs.List.{flat_map, AllByRecursion as All}
+use Rattle.std.specs.List.{flat_map, AllByRecursion}
 use Rattle.std.specs.Char.{len_utf8}
 use Rattle.text.specs.Recv.{character, ends, text_end}
 use Rattle.text.specs.Utf8.{Scalar, octets, Text, Longest}
@@ -77,7 +77,7 @@ end_past c rest s =
     end_at (octets c ++ rest) (length (octets c)) (sym (starts c rest s)) (unempty c)
     ∙ ap (λ l. length (octets c) + text_end l) (drop_at (octets c) rest (length (octets c)) refl)
 
-reached : (cs rest : List ℕ) → All Scalar cs → length (flat_map octets cs) ≤ text_end (flat_map octets cs ++ rest)
+reached : (cs rest : List ℕ) → AllByRecursion Scalar cs → length (flat_map octets cs) ≤ text_end (flat_map octets cs ++ rest)
 reached [] rest all = omega arith
 reached (c ∷ cs) rest all =
     let joint : (octets c ++ flat_map octets cs) ++ rest ≡ octets c ++ (flat_map octets cs ++ rest) = append_assoc (octets c) (flat_map octets cs) rest in

@@ -2,7 +2,7 @@
 use Rattle.std.proofs.Common.{◌≡◌, ℕ, suc, ◌+◌, ◌*◌, ◌%◌, ◌<◌, ◌≤◌, true, false, ◌&&◌, leb, List, [], ◌∷◌, length, get_or, drop, sym, refl, ap, ◌∙◌, subst, inl, inr, ⊎_elim, arith, drop-cons}
 use Rattle.std.proofs.lemmas.List.{drop_all}
 use Rattle.std.proofs.lemmas.Bool.{cases_lt, cases_Bool, cond-true, cond-false, leb-true, le-leb, and_parts, and_from, both_ways, false≢true}
-use Rattle.std.specs.List.{AllByRecursion as All}
+use Rattle.std.specs.List.{AllByRecursion}
 use Rattle.text.specs.Octets.{Tail, Shortest}
 use Rattle.text.specs.Recv.{Octet, alternatives, begins, begun, character}
 
@@ -36,7 +36,7 @@ fitting (o ∷ os) k bs f =
     (fitting os (suc k) bs f.3)
 
 -- what holds of the length of each row that fits, and of 0 where none does, holds of the length that is found
-found : (rs : List (List Octet)) (bs : List ℕ) (P : ℕ → Type 0) → (All (λ r. Fit r 0 bs → ⊥) rs → P 0) → All (λ r. Fit r 0 bs → P (length r)) rs → P (begun rs bs)
+found : (rs : List (List Octet)) (bs : List ℕ) (P : ℕ → Type 0) → (AllByRecursion (λ r. Fit r 0 bs → ⊥) rs → P 0) → AllByRecursion (λ r. Fit r 0 bs → P (length r)) rs → P (begun rs bs)
 found [] bs P none each = none tt
 found (r ∷ rs) bs P none each = ⊎_elim yes (λ e. no e (found rs bs P (λ rest. none (never e, rest)) each.1)) (cases_Bool (begins r bs))
   where
@@ -80,7 +80,7 @@ pub record Four (a b d e : ℕ) : Type 0 where
 
 -- the character of n bytes that the bytes begin with
 pub data Kind (bs : List ℕ) (n : ℕ) : Type 0 where
-  in0 : All (λ r. Fit r 0 bs → ⊥) alternatives → n ≡ 0 → Kind bs n
+  in0 : AllByRecursion (λ r. Fit r 0 bs → ⊥) alternatives → n ≡ 0 → Kind bs n
   in1 : 1 ≤ length bs → get_or bs 0 0 < 0x80 → n ≡ 1 → Kind bs n
   in2 : 2 ≤ length bs → Two (get_or bs 0 0) (get_or bs 1 0) → n ≡ 2 → Kind bs n
   in3 : 3 ≤ length bs → Three (get_or bs 0 0) (get_or bs 1 0) (get_or bs 2 0) → n ≡ 3 → Kind bs n

@@ -1,6 +1,6 @@
 -- Text by RFC 3629: the octets of Unicode scalar values, one character behind another.
 use Rattle.std.specs.Prelude.{◌≡◌, ℕ, ◌+◌, ◌/◌, ◌%◌, ◌<◌, ◌≤◌, cond, ◌⊎◌, List, [], ◌∷◌, length, take, nat_lt}
-use Rattle.std.specs.List.{flat_map, AllByRecursion as All}
+use Rattle.std.specs.List.{flat_map, AllByRecursion}
 
 -- a Unicode scalar value: at most 10FFFF, and none of the surrogates D800 to DFFF
 abbrev pub Scalar : ℕ → Type 0
@@ -20,7 +20,7 @@ octets c =
 
 -- bytes that are such characters in a row
 abbrev pub Text : List ℕ → Type 0
-Text bs = (cs : List ℕ) × All Scalar cs × (flat_map octets cs ≡ bs)
+Text bs = (cs : List ℕ) × AllByRecursion Scalar cs × (flat_map octets cs ≡ bs)
 
 -- n is where the longest row of whole characters ends
 pub record Longest (bs : List ℕ) (n : ℕ) : Type 0 where

@@ -1,10 +1,10 @@
 -- Bytes, and bytes written over others.
 use Rattle.std.specs.Prelude.{ℕ, ◌+◌, ◌<◌, List, ◌++◌, length, take, drop}
-use Rattle.std.specs.List.{AllByRecursion as All}
+use Rattle.std.specs.List.{AllByRecursion}
 
 -- every number is a byte
 abbrev pub Octets : List ℕ → Type 0
-Octets bs = All (λ b. b < 256) bs
+Octets bs = AllByRecursion (λ b. b < 256) bs
 
 -- ws over the bytes from `at` on
 abbrev pub put : ℕ → List ℕ → List ℕ → List ℕ
