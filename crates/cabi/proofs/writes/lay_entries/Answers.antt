@@ -8,8 +8,8 @@ pub loop-row-preserved : goal.loop-row-preserved
 loop-row-preserved c =
     let xs = c.args.rows.now in
     let i = c.loop-row.row-index in
-    pushed (c.lay-entry.result ∷ []) c.loop-row.invariant c.in-ok-push.was c.push.ensures.items
-    ∙ ap (λ x. map entry_of (take i xs) ++ x ∷ []) c.lay-entry.ensures
+    pushed (c.lay_entry.result ∷ []) c.loop-row.invariant c.in_ok-push.was c.push.ensures.items
+    ∙ ap (λ x. map entry_of (take i xs) ++ x ∷ []) c.lay_entry.ensures
     ∙ sym (ap (map entry_of) (take_more xs i _ c.loop-row-test.true) ∙ map-append entry_of (take i xs) (get_or xs i _ ∷ []))
 
 pub returns : goal.returns

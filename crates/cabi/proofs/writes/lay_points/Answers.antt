@@ -8,8 +8,8 @@ pub loop-pair-preserved : goal.loop-pair-preserved
 loop-pair-preserved c =
     let xs = c.args.pairs.now in
     let i = c.loop-pair.pair-index in
-    pushed (c.lay-point.result ∷ []) c.loop-pair.invariant c.in-ok-push.was c.push.ensures.items
-    ∙ ap (λ x. map point_of (take i xs) ++ x ∷ []) c.lay-point.ensures
+    pushed (c.lay_point.result ∷ []) c.loop-pair.invariant c.in_ok-push.was c.push.ensures.items
+    ∙ ap (λ x. map point_of (take i xs) ++ x ∷ []) c.lay_point.ensures
     ∙ sym (ap (map point_of) (take_more xs i _ c.loop-pair-test.true) ∙ map-append point_of (take i xs) (get_or xs i _ ∷ []))
 
 pub returns : goal.returns

@@ -7,19 +7,19 @@ use Rattle.cabi.proofs.writes.write_points.Goals as goal
 pub loop-init : goal.loop-init
 loop-init c =
     let e = path_encoding c.args.closed c.args.points.now in
-    (c.in-ok-size.ensures.answer ∙ ap told (sym (room_again e c.args.part.now _ c.path-to-sql.ensures.after)), refl)
+    (c.in_ok-size.ensures.answer ∙ ap told (sym (room_again e c.args.part.now _ c.path_to_sql.ensures.after)), refl)
 
 pub loop-preserved : goal.loop-preserved
 loop-preserved c =
     let e = path_encoding c.args.closed c.args.points.now in (
-      c.in-ok-size-2.ensures.answer ∙ ap (λ q. told (room_for (length q) e)) c.loop.invariant.1,
-      stays e c.args.part.now _ c.path-to-sql.ensures.after _ _ c.loop.invariant.1 c.path-to-sql-in-loop.ensures.after,
+      c.in_ok-size-2.ensures.answer ∙ ap (λ q. told (room_for (length q) e)) c.loop.invariant.1,
+      stays e c.args.part.now _ c.path_to_sql.ensures.after _ _ c.loop.invariant.1 c.path_to_sql-in-loop.ensures.after,
     )
 
 pub returns : goal.returns
 returns c =
     let e = path_encoding c.args.closed c.args.points.now in
     record {
-      answer = c.loop.invariant.0 ∙ ap told (room_again e c.args.part.now _ c.path-to-sql.ensures.after);
-      after = c.loop.invariant.1 ∙ c.path-to-sql.ensures.after;
+      answer = c.loop.invariant.0 ∙ ap told (room_again e c.args.part.now _ c.path_to_sql.ensures.after);
+      after = c.loop.invariant.1 ∙ c.path_to_sql.ensures.after;
     }

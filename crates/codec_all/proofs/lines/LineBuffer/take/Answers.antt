@@ -5,8 +5,8 @@ use Rattle.codec_all.specs.Lines.{Taken}
 use Rattle.codec_all.proofs.Taking.{taken_push}
 use Rattle.codec_all.proofs.lines.LineBuffer.take.Goals as goal
 
-pub returns-in-err-take-byte : goal.returns-in-err-take-byte
-returns-in-err-take-byte c = IfOk-from_err _ _ c.from-residual.ensures.0
+pub returns-in_err-take_byte : goal.returns-in_err-take_byte
+returns-in_err-take_byte c = IfOk-from_err _ _ c.from_residual.ensures.0
 
 pub loop-b-preserved : goal.loop-b-preserved
 loop-b-preserved c =
@@ -14,9 +14,9 @@ loop-b-preserved c =
     let out = vec_items c.args.out.now in
     let bs = c.args.bytes.now in
     let i = c.loop-b.b-index in
-    let after = vec_items c.take-byte.new.out in
-    let holds = vec_items c.take-byte.new.self.line in
-    let all = taken_push held (take i bs) out (vec_items c.loop-b.out) (vec_items c.loop-b.self.line) (get_or bs i 0) after holds c.loop-b.invariant c.in-ok-take-byte.ensures in
+    let after = vec_items c.take_byte.new.out in
+    let holds = vec_items c.take_byte.new.self.line in
+    let all = taken_push held (take i bs) out (vec_items c.loop-b.out) (vec_items c.loop-b.self.line) (get_or bs i 0) after holds c.loop-b.invariant c.in_ok-take_byte.ensures in
     subst (λ (l : List ℕ). Taken held l out after holds) (sym (take_more bs i 0 c.loop-b-test.true)) all
 
 pub returns : goal.returns

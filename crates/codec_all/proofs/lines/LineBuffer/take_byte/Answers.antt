@@ -4,11 +4,11 @@ use Rattle.codec_all.specs.Lines.{answer_line, Taken}
 use Rattle.codec_all.proofs.Taking.{taken_newline, taken_other}
 use Rattle.codec_all.proofs.lines.LineBuffer.take_byte.Goals as goal
 
-pub returns-in-ok-push-answer : goal.returns-in-ok-push-answer
-returns-in-ok-push-answer c =
+pub returns-in_ok-push_answer : goal.returns-in_ok-push_answer
+returns-in_ok-push_answer c =
     let out = vec_items c.args.out.now in
     taken_newline (vec_items c.args.self.now.line) c.args.byte out _ _ c.if-byte-eq10.true
-    (c.in-ok-push-answer.ensures ∙ ap (λ l. out ++ answer_line l) c.deref.ensures.value)
+    (c.in_ok-push_answer.ensures ∙ ap (λ l. out ++ answer_line l) c.deref.ensures.value)
     c.clear.ensures.items
 
 pub returns-else-byte-eq10 : goal.returns-else-byte-eq10
