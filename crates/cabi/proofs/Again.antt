@@ -1,11 +1,11 @@
 -- Writing the same once more.
-use Rattle.std.proofs.Common.{◌≡◌, ℕ, ◌≤◌, true, false, leb, List, ◌++◌, length, drop, Ok, Err, sym, refl, ap, ◌∙◌, arith}
+use Rattle.std.proofs.Common.{◌≡◌, ℕ, ◌≤◌, leb, List, ◌++◌, length, drop, Ok, Err, sym, refl, ap, ◌∙◌, arith}
 use Rattle.std.proofs.lemmas.List.{length-append, length-drop, drop_at}
-use Rattle.std.proofs.lemmas.Bool.{cond-true, cond-false, cond_both, leb-true}
+use Rattle.std.proofs.lemmas.Bool.{cond_both, leb-true}
 use Rattle.fault.specs.declared.Rule.TheVariants.{NoRoom}
 use Rattle.fault.specs.Faults.{fault}
 use Rattle.wire.specs.Bytes.{over}
-use Rattle.wire.specs.Encoding.{Encoding, told, laid, room_for}
+use Rattle.wire.specs.Encoding.{Encoding, laid, room_for}
 
 length_over : (ws p : List ℕ) → length ws ≤ length p → length (over ws p) ≡ length p
 length_over ws p h = simp (length-append, length-drop) (omega arith)

@@ -3,7 +3,7 @@ use Rattle.std.specs.Prelude.{ℕ, List, ◌∷◌, ◌++◌, length, Some, None
 use Rattle.answers.specs.Plain.{refused, wrote, answered, room}
 use Rattle.double.specs.declared.point.Box.{Box}
 use Rattle.double.specs.declared.point.Point.{Point}
-use Rattle.double.specs.Points.{point, corners}
+use Rattle.double.specs.Points.{corners}
 use Rattle.fault.specs.declared.Fault.{Fault}
 use Rattle.geometry.specs.Layout.{point_layout, box_layout}
 use Rattle.syntax.specs.Parsed.{split_at}

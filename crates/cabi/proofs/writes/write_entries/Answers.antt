@@ -1,7 +1,7 @@
 use Rattle.std.proofs.Common.{length, sym, refl, ap, ◌∙◌}
 use Rattle.hstore.specs.Encoding.{hstore_encoding}
 use Rattle.texts.specs.Places.{pool_pair}
-use Rattle.wire.specs.Encoding.{told, laid, room_for}
+use Rattle.wire.specs.Encoding.{told, room_for}
 use Rattle.cabi.proofs.Again.{room_again, stays}
 use Rattle.cabi.proofs.writes.write_entries.Goals as goal
 

@@ -1,6 +1,6 @@
 use Rattle.std.proofs.Common.{length, sym, refl, ap, ◌∙◌}
 use Rattle.path.specs.Layout.{path_encoding}
-use Rattle.wire.specs.Encoding.{told, laid, room_for}
+use Rattle.wire.specs.Encoding.{told, room_for}
 use Rattle.cabi.proofs.Again.{room_again, stays}
 use Rattle.cabi.proofs.writes.write_points.Goals as goal
 

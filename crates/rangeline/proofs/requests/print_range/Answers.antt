@@ -1,7 +1,6 @@
 use Rattle.std.proofs.Common.{◌++◌, codes, sym, ap, ◌∙◌}
 use Rattle.std.proofs.lemmas.List.{append_assoc}
 use Rattle.std.proofs.lemmas.Slice.{pushed}
-use Rattle.std.proofs.lemmas.Result.{IfOk-weaker}
 use Rattle.range.specs.Recv.{seen_bound, seen_range}
 use Rattle.rangeline.specs.Ranges.{bound_text, range_text}
 use Rattle.rangeline.proofs.requests.print_range.Goals as goal
