@@ -3,8 +3,8 @@ ghost use Rattle.pile.specs.Piles.{layer_verdict};
 ghost use Rattle.checkline.specs.Layers.{named, layer_within};
 
 use fault::Fault;
-use validator::array::ArrayOf;
-use validator::range::RangeOf;
+use validator::array_of::ArrayOf;
+use validator::range_of::RangeOf;
 use validator::validator::Validator;
 
 #[derive(Clone, Copy)]

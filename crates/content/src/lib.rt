@@ -1,10 +1,10 @@
 //! What the columns of a sheet are filled with, each as a serializer of one item.
 #![tactic(auto)]
 
-pub mod array;
+pub mod array_content;
 pub mod encoded;
 pub mod formats;
 pub mod item;
 pub mod lists;
 pub mod raised;
-pub mod range;
+pub mod range_content;

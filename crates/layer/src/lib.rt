@@ -1,5 +1,5 @@
 //! Layers: serializers over any serializer, whose items are arrays or ranges of the items below.
 #![tactic(auto)]
 
-pub mod array;
-pub mod range;
+pub mod array_layer;
+pub mod range_layer;

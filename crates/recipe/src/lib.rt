@@ -88,15 +88,15 @@ impl<'a> Serializer for Weights<'a> {
 mod tests {
     use super::positive::Positive;
     use super::*;
-    use layer::array::ArrayLayer;
-    use layer::range::RangeLayer;
+    use layer::array_layer::ArrayLayer;
+    use layer::range_layer::RangeLayer;
     use pile::{judge, write_judged};
     use range::bound::RangeBound;
     use serializer::elements::ElementList;
     use serializer::nullable::write_nullable;
     use std::test::Fail;
-    use validator::array::ArrayOf;
-    use validator::range::RangeOf;
+    use validator::array_of::ArrayOf;
+    use validator::range_of::RangeOf;
 
     // An array of the int4 ranges [3, 9) and [1, ): its head, and each behind its length word. The
     // last word stands at 50.

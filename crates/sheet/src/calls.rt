@@ -6,12 +6,12 @@ ghost use Rattle.sheet.specs.Filing.{Did};
 
 use crate::sheet::Sheet;
 use array::dimension::ArrayDimension;
-use content::array::ArrayContent;
+use content::array_content::ArrayContent;
 use content::encoded::One;
 use content::formats::{BoxContent, InetContent, PointContent, VarbitContent};
 use content::item::{Chosen, Nothing};
 use content::lists::{HstoreContent, PathContent};
-use content::range::{EmptyRange, RangeContent};
+use content::range_content::{EmptyRange, RangeContent};
 use double::point::{Box, Point};
 use fault::Fault;
 use hstore::entry::HstoreEntry;

@@ -1,6 +1,6 @@
 //! Validators: what accepts bytes or refuses them with one fault, and the layers over any of them.
 #![tactic(auto)]
 
-pub mod array;
-pub mod range;
+pub mod array_of;
+pub mod range_of;
 pub mod validator;
