@@ -3,6 +3,6 @@
 
 pub mod bottom;
 pub mod layers;
-pub mod piles;
+mod piles;
 pub mod requests;
 pub mod words;
