@@ -22,12 +22,12 @@ use Rattle.geometry.specs.Layout.{box_layout}
 use Rattle.geometry.specs.Recv.{box_recv}
 use Rattle.geometry.proofs.Laws.{point_read, point_back, box_words}
 use Rattle.hstore.specs.Encoding.{keys_there, entry_texts}
-use Rattle.hstore.proofs.Laws as hstore-laws
+use Rattle.hstore.proofs.Laws as hstore_laws
 use Rattle.inet.specs.Layout.{widest}
-use Rattle.inet.proofs.Laws as inet-laws
-use Rattle.path.proofs.Laws as path-laws
+use Rattle.inet.proofs.Laws as inet_laws
+use Rattle.path.proofs.Laws as path_laws
 use Rattle.range.specs.Encoding.{bound_item}
-use Rattle.range.proofs.Layouts as range-laws
+use Rattle.range.proofs.Layouts as range_laws
 use Rattle.serializer.specs.Lists.{item_at, values, first_fault, refused_or}
 use Rattle.varbit.specs.Layout.{begun, varbit_layout}
 use Rattle.varbit.specs.Recv.{varbit_recv}
@@ -101,7 +101,7 @@ range_reads lower upper is h short e =
     let pair : ◌≡◌ (l.0, u.0) t.0 = let q = u.2 in cc in
     let low : l.0 ≡ t.0.0 = ap (λ q. q.0) pair in
     let up : u.0 ≡ t.0.1 = ap (λ q. q.1) pair in
-    subst (λ g. ReadsAs g (value_of g)) same (range-laws.written_back is short lower upper t.0.0 t.0.1 (l.1 ∙ ap Ok low) (u.1 ∙ ap Ok up))
+    subst (λ g. ReadsAs g (value_of g)) same (range_laws.written_back is short lower upper t.0.0 t.0.1 (l.1 ∙ ap Ok low) (u.1 ∙ ap Ok up))
 
 varbit_reads : (bits : ℕ) (bytes : List ℕ) (u : Unit {0}) → varbit_rule bits (length bytes) ≡ Ok u → varbit_recv (varbit_layout bits bytes) ≡ Ok (bits, bytes)
 varbit_reads bits bytes u e =
@@ -143,7 +143,7 @@ held_reads (hstore ps es) h typed e =
     let x = then_ok (entry_texts ps 0 es) _ t.0 k.2 in
     let n = then_ok (few (length es)) (λ _. Ok x.0) t.0 x.2 in
     let is : x.0 ≡ t.0 = let q = n.2 in cc in
-    subst (λ g. ReadsAs g (value_of g)) same (hstore-laws.written_back ps es t.0 (x.1 ∙ ap Ok is) (few_ok (length es) n.0 n.1))
+    subst (λ g. ReadsAs g (value_of g)) same (hstore_laws.written_back ps es t.0 (x.1 ∙ ap Ok is) (few_ok (length es) n.0 n.1))
 held_reads (varbit bits bytes) h typed e =
     let t = then_ok (varbit_rule bits (length bytes)) (λ _. Ok (a_varbit bits bytes)) h e in
     let same : a_varbit bits bytes ≡ h = let q = t.2 in cc in
@@ -153,9 +153,9 @@ held_reads (box b) h typed e = let same : a_box b ≡ h = cc in subst (λ g. Rea
 held_reads (path closed ps) h typed e =
     let t = then_ok (few (length ps)) (λ _. Ok (a_path closed ps)) h e in
     let same : a_path closed ps ≡ h = let q = t.2 in cc in
-    subst (λ g. ReadsAs g (value_of g)) same (path-laws.written_back closed ps (few_ok (length ps) t.0 t.1) typed)
+    subst (λ g. ReadsAs g (value_of g)) same (path_laws.written_back closed ps (few_ok (length ps) t.0 t.1) typed)
 held_reads (inet a mask) h typed e =
     let t = then_ok (inet_rule a mask) (λ _. Ok (an_inet a mask)) h e in
     let same : an_inet a mask ≡ h = let q = t.2 in cc in
     let low = leb-true mask (widest a) (passed (leb mask (widest a)) (Ok tt) _ t.0 (sym t.1)).0 in
-    subst (λ g. ReadsAs g (value_of g)) same (inet-laws.reads_back a mask typed low 0)
+    subst (λ g. ReadsAs g (value_of g)) same (inet_laws.reads_back a mask typed low 0)

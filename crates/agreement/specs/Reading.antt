@@ -14,7 +14,7 @@ use Rattle.inet.specs.Recv.{inet, inet_recv}
 use Rattle.path.specs.Laws as path
 use Rattle.range.specs.declared.bound.RangeBound.{RangeBound}
 use Rattle.range.specs.Recv.{range_recv}
-use Rattle.record.specs.Laws as record-laws
+use Rattle.record.specs.Laws as record_laws
 use Rattle.record.specs.Layout.{Column}
 use Rattle.varbit.specs.Recv.{varbit_recv}
 use Rattle.wire.specs.Words.{Value}
@@ -47,7 +47,7 @@ pub data ColumnsAs : Book → List Column → Type 0 where
 -- the bytes of a sheet read as a book: the record is opened and read to the end, and each column as what it holds
 pub record SheetReads (bs : List ℕ) (b : Book) : Type 0 where
   pub columns : List Column
-  pub opens : record-laws.Opens bs columns
+  pub opens : record_laws.Opens bs columns
   pub each : ColumnsAs b columns
 
 -- columns of the same kind

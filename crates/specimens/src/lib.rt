@@ -1,4 +1,4 @@
-//! The worked examples, as one proved list.
+//! The worked examples, as proved lists.
 #![tactic(auto)]
 
 ghost use Rattle.std.specs.Prelude.{◌≡◌};

@@ -3,7 +3,7 @@ use Rattle.std.proofs.Common.{◌≡◌, ℕ, ◌+◌, ◌-◌, ◌*◌, ◌^◌
 use lib.Count.{count_leading_zeros, leading_unique, leading_length}
 use Rattle.std.proofs.lemmas.Bool.{cases_lt, cond-false, ne_eqb}
 use Rattle.std.proofs.lemmas.Bool.Decides.{nat_tests}
-use Rattle.text.specs.Octets.{announced}
+use Rattle.text.specs.Octets.{announced, Tail}
 
 -- b has n leading ones, and announces m octets
 pub data Ones (b n m : ℕ) : Type 0 where
@@ -49,3 +49,27 @@ announced_by b n h e = ap by_ones e ∙ told (ones b h)
     told (ones3 _ _ p q) = ap by_ones p ∙ sym q
     told (ones4 _ _ p q) = ap by_ones p ∙ sym q
     told {k} (ones5 _ l q) = by_rest k (λ p. omega arith) (λ p. omega arith) (λ p. omega arith) (λ p. omega arith) ∙ sym q
+
+-- a tail octet has one
+module _ (b n m : ℕ) (o : Ones b n m) where
+  pub tail_from : n ≡ 1 → Tail b
+  tail_from e =
+      elim o [
+        | ones0 _ k _ ↦ absurd (omega arith)
+        | ones1 l u _ _ ↦ (l, omega arith)
+        | ones2 _ _ k _ ↦ absurd (omega arith)
+        | ones3 _ _ k _ ↦ absurd (omega arith)
+        | ones4 _ _ k _ ↦ absurd (omega arith)
+        | ones5 _ l _ ↦ absurd (omega arith)
+      ]
+
+  pub from_tail : Tail b → n ≡ 1
+  from_tail t =
+      elim o [
+        | ones0 u _ _ ↦ absurd (omega arith)
+        | ones1 _ _ k _ ↦ k
+        | ones2 l _ _ _ ↦ absurd (omega arith)
+        | ones3 l _ _ _ ↦ absurd (omega arith)
+        | ones4 l _ _ _ ↦ absurd (omega arith)
+        | ones5 l _ _ ↦ absurd (omega arith)
+      ]
