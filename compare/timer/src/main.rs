@@ -45,29 +45,19 @@ fn hstore(name: &str, hstore: &Hstore, times: usize) {
     let value = out.to_vec();
     read(name, &value, times, ours::read_hstore, theirs::read_hstore);
     let mut part = vec![FILLED; size];
-    write(
+    write_again(
         name,
         size,
-        || {
-            timed_again(times, size, |again| {
-                ours::write_hstore(hstore, again, &mut part)
-            })
-        },
-        || timed(times, size, || theirs::write_hstore(&entries, &mut out)),
+        times,
+        |again| ours::write_hstore(hstore, again, &mut part),
+        || theirs::write_hstore(&entries, &mut out),
     );
-    write(
+    write_again(
         &format!("{name}, from bytes"),
         size,
-        || {
-            timed_again(times, size, |again| {
-                ours::write_hstore(hstore, again, &mut part)
-            })
-        },
-        || {
-            timed(times, size, || {
-                theirs::write_checked_hstore(hstore, &mut out)
-            })
-        },
+        times,
+        |again| ours::write_hstore(hstore, again, &mut part),
+        || theirs::write_checked_hstore(hstore, &mut out),
     );
     assert!(part == value && out == value, "both write the same bytes");
 }
@@ -78,15 +68,12 @@ fn path(name: &str, pairs: &[Pair], times: usize) {
     let value = out.to_vec();
     read(name, &value, times, ours::read_path, theirs::read_path);
     let mut part = vec![FILLED; size];
-    write(
+    write_again(
         name,
         size,
-        || {
-            timed_again(times, size, |again| {
-                ours::write_path(pairs, again, &mut part)
-            })
-        },
-        || timed(times, size, || theirs::write_path(pairs, &mut out)),
+        times,
+        |again| ours::write_path(pairs, again, &mut part),
+        || theirs::write_path(pairs, &mut out),
     );
     assert!(part == value && out == value, "both write the same bytes");
 }
@@ -114,6 +101,22 @@ fn write(
     theirs: impl FnMut() -> Duration,
 ) {
     row(&format!("write {name}"), size, ours, theirs);
+}
+
+/// A write whose input has to be laid out on our side, written so many times more.
+fn write_again(
+    name: &str,
+    size: usize,
+    times: usize,
+    mut ours: impl FnMut(usize) -> usize,
+    mut theirs: impl FnMut() -> usize,
+) {
+    write(
+        name,
+        size,
+        || timed_again(times, size, &mut ours),
+        || timed(times, size, &mut theirs),
+    );
 }
 
 /// The time of a call, by the mean over so many of them, each with the expected answer.

@@ -13,7 +13,7 @@ use pile::judge;
 use validator::validator::Validator;
 
 // What layers over a bottom say of the bytes, the outermost first.
-pub fn judge_pile(layers: &[Layer], bottom: Bottom, bytes: &[u8]) -> Result<(), Fault>
+pub(crate) fn judge_pile(layers: &[Layer], bottom: Bottom, bytes: &[u8]) -> Result<(), Fault>
     requires { length layers.now ≤ most_layers }
     ensures answer { result ≡ pile_verdict (map named layers.now) (bottom_verdict bottom) bytes.now }
     ensures reads { (o : Outcome) → (result ≡ o) ↔ pile_reading (map named layers.now) (By (bottom_verdict bottom)) bytes.now o }
