@@ -6,14 +6,15 @@ use Rattle.fault.specs.declared.Fault.{Fault}
 use Rattle.fault.specs.declared.Rule.TheVariants.{Trailing}
 use Rattle.fault.specs.Faults.{fault}
 use Rattle.wire.specs.Cursor.{State, Reader, Answer, failed, taken, ended, next_of, step}
-use Rattle.answers.specs.Parts.{shown, texts_of, next_texts, steps_texts, part_text, goes_on, told_as}
+use Rattle.answers.specs.Parts.{shown, texts_of, next_texts, steps_texts, part_text, goes_on, ShownBy}
 use Rattle.answers.specs.Plain.{failure}
+use Rattle.wire.specs.Cursors.{told_next}
 use Rattle.answers.proofs.Texts.{onward, onward_none, onward_more}
 
 -- a step by the texts of parts is the step, with its part shown
 module _ {X : Type 0} (show : X → List ℕ) (read : Reader X) where
   abbrev as_texts : Answer X × State → Answer (List ℕ) × State
-  as_texts p = (told_as show p.0, p.1)
+  as_texts p = (told_next show p.0, p.1)
 
   taken_shown : (s : State) (r : Result (X × ℕ) Fault) → taken (shown show r) s ≡ as_texts (taken r s)
   taken_shown s (Ok p) = refl
@@ -31,14 +32,19 @@ module _ {X : Type 0} (show : X → List ℕ) (read : Reader X) where
   next_shown s (Some f) = refl
   next_shown s None = going_shown s (eqb s.left 0)
 
-  step_shown : (s : State) → step (texts_of show read) s ≡ (told_as show (step read s).0, (step read s).1)
+  step_shown : (s : State) → step (texts_of show read) s ≡ (told_next show (step read s).0, (step read s).1)
   step_shown s = next_shown s s.met
 
-  -- what a cursor told and where it stands then, with the part shown
-  pub shows : (s after : State) (a : Answer X) (t : Answer (List ℕ)) → a ≡ (step read s).0 → after ≡ (step read s).1 → t ≡ told_as show a → (t ≡ (step (texts_of show read) s).0) × (after ≡ (step (texts_of show read) s).1)
-  shows s after a t told moved is =
+  told_shown : {I : Type 0} (seen : I → X) (a : Result (Option I) Fault) → told_next (λ i. show (seen i)) a ≡ told_next show (told_next seen a)
+  told_shown seen (Ok (Some i)) = refl
+  told_shown seen (Ok None) = refl
+  told_shown seen (Err f) = refl
+
+  -- what a cursor told, with the part shown
+  pub shows : {I : Type 0} (seen : I → X) (s : State) (a : Result (Option I) Fault) → told_next seen a ≡ (step read s).0 → ShownBy (λ i. show (seen i)) (texts_of show read) s a (step read s).1
+  shows seen s a told =
       let both = step_shown s in
-      (is ∙ ap (told_as show) told ∙ sym (ap (λ p. p.0) both), moved ∙ sym (ap (λ p. p.1) both))
+      (told_shown seen a ∙ ap (told_next show) told ∙ sym (ap (λ p. p.0) both), sym (ap (λ p. p.1) both))
 
 -- a step that gives a part leaves one less to come
 module _ (read : Reader (List ℕ)) where

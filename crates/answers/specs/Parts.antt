@@ -1,8 +1,8 @@
 -- Lists read by a cursor, up to its end or its first fault.
-use Rattle.std.specs.Prelude.{ℕ, zero, suc, Bool, true, false, List, [], ◌∷◌, ◌++◌, Some, None, Ok, Err, Option, Result}
-use Rattle.std.specs.Option.{option_map}
+use Rattle.std.specs.Prelude.{◌≡◌, ℕ, zero, suc, Bool, true, false, List, [], ◌∷◌, ◌++◌, Some, None, Ok, Err, Option, Result}
 use Rattle.fault.specs.declared.Fault.{Fault}
 use Rattle.wire.specs.Cursor.{State, Reader, Answer, step}
+use Rattle.wire.specs.Cursors.{told_next}
 use Rattle.answers.specs.Plain.{failure, list_text}
 
 -- the texts of what a reader reads
@@ -43,7 +43,6 @@ goes_on (Ok None) = false
 goes_on (Ok (Some t)) = true
 goes_on (Err f) = false
 
--- what a call answered, by the bytes that a vector holds
-abbrev pub told_as : {V : Type 0} → (V → List ℕ) → Result (Option V) Fault → Answer (List ℕ)
-told_as items (Ok o) = Ok (option_map items o)
-told_as items (Err f) = Err f
+-- what a step answered, and where the cursor stands then, by the texts of parts
+abbrev pub ShownBy : {I : Type 0} → (I → List ℕ) → Reader (List ℕ) → State → Result (Option I) Fault → State → Type 0
+ShownBy text reads s a after = (told_next text a ≡ (step reads s).0) × (after ≡ (step reads s).1)

@@ -1,35 +1,41 @@
 //! A list as a cursor reads it.
-ghost use Rattle.std.specs.Prelude.{◌≡◌, ℕ, List, ◌++◌, IfOk, vec_items, OnOk};
+ghost use Rattle.std.specs.Prelude.{◌≡◌, ℕ, List, ◌++◌, IfOk, OnOk, Option, Result};
+ghost use Rattle.fault.specs.declared.Fault.{Fault};
 ghost use Rattle.wire.specs.Cursor.{State, Reader, step};
-ghost use Rattle.answers.specs.Parts.{told_as, comma, part_text, goes_on, parts_text};
+ghost use Rattle.wire.specs.Cursors.{state, told_next};
+ghost use Rattle.answers.specs.Parts.{ShownBy, comma, part_text, goes_on, parts_text};
 
 use crate::plain::push_failure;
 use fault::Fault;
-use std::alloc::{AllocError, Global};
+use std::alloc::AllocError;
+use wire::cursor::{Cursor, Part};
 
-// A cursor over the parts of a value, each as its text.
-pub trait Parts {
-    ghost state: { Self → State };
+// How parts of a kind are printed.
+pub trait PartText<'a, P: Part<'a>> {
+    // The text of a part, and how parts are read as their texts.
+    ghost text: { P.Item → List ℕ };
 
-    // The texts of parts, read at a place.
     ghost reads: { Reader (List ℕ) };
 
-    // The text of the next part, none at the end; a fault once met is met again.
-    fn next_text(&mut self, heap: Global) -> Result<Result<Option<Vec<u8>>, Fault>, AllocError>
-        ensures { IfOk result (λ a. (told_as vec_items a ≡ (step reads (state self.old)).0) × (state self.new ≡ (step reads (state self.old)).1)) };
+    // Prints a part to the end of what is there.
+    fn push(out: &mut Vec<u8>, item: P::Item) -> Result<(), AllocError>
+        ensures { OnOk result (out.new.items ≡ out.old.items ++ text item) };
+
+    // The step that gives a part is one that reads its text.
+    ghost shows: { (s : State) (a : Result (Option P.Item) Fault) → told_next P.seen a ≡ (step P.reader s).0 → ShownBy text reads s a (step P.reader s).1 };
 }
 
 // Prints what a cursor gives up to its end or its first fault, as a list.
-pub fn push_parts<P: Parts>(
-    heap: Global,
+pub fn push_parts<'a, P: Part<'a>, T: PartText<'a, P>>(
     out: &mut Vec<u8>,
-    parts: &mut P,
+    cursor: Cursor<'a, P>,
 ) -> Result<(), AllocError>
-    ensures { OnOk result (out.new.items ≡ out.old.items ++ parts_text P.Parts.reads (P.Parts.state parts.old)) }
+    ensures { OnOk result (out.new.items ≡ out.old.items ++ parts_text T.reads (state cursor.entry)) }
 {
+    let mut parts = cursor;
     out.push(b'[')?;
     let mut first = true;
-    while push_part(heap, out, parts, first)? {
+    while push_part::<P, T>(out, &mut parts, first)? {
         first = false;
     }
     out.push(b']')?;
@@ -38,18 +44,17 @@ pub fn push_parts<P: Parts>(
 
 // Prints the next part or the fault, behind a comma unless it is the first; answers whether another
 // may follow.
-fn push_part<P: Parts>(
-    heap: Global,
+fn push_part<'a, P: Part<'a>, T: PartText<'a, P>>(
     out: &mut Vec<u8>,
-    parts: &mut P,
+    parts: &mut Cursor<'a, P>,
     first: bool,
 ) -> Result<bool, AllocError>
-    ensures { IfOk result (λ b. (out.new.items ≡ out.old.items ++ part_text first (step P.Parts.reads (P.Parts.state parts.old)).0) × (b ≡ goes_on (step P.Parts.reads (P.Parts.state parts.old)).0) × (P.Parts.state parts.new ≡ (step P.Parts.reads (P.Parts.state parts.old)).1)) }
+    ensures { IfOk result (λ b. (out.new.items ≡ out.old.items ++ part_text first (step T.reads (state parts.old)).0) × (b ≡ goes_on (step T.reads (state parts.old)).0) × (state parts.new ≡ (step T.reads (state parts.old)).1)) }
 {
-    match parts.next_text(heap)? {
-        Ok(Some(text)) => {
+    match parts.next() {
+        Ok(Some(item)) => {
             push_comma(out, first)?;
-            out.extend_from_slice(&text)?;
+            T::push(out, item)?;
             Ok(true)
         }
         Ok(None) => Ok(false),

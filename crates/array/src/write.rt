@@ -12,7 +12,8 @@ use fault::{Fault, Rule};
 use serializer::nullable::write_nullable;
 use serializer::serializer::Serializer;
 use wire::oid::Oid;
-use wire::write::{from_usize, put_i32, put_u32};
+use wire::word::Word;
+use wire::write::from_usize;
 
 // What the sizes of all items tell: the bytes of the elements, and whether one is NULL.
 #[derive(Clone, Copy)]
@@ -62,9 +63,9 @@ fn encode<S: Serializer>(
     if part.len() < extent.bytes || part.len() - extent.bytes < start {
         return Err(Fault::new(Rule::NoRoom, 0));
     }
-    put_i32(part, 0, count)?;
-    put_u32(part, 4, u32::from(extent.nulls))?;
-    put_u32(part, 8, oid)?;
+    i32::put(part, 0, count)?;
+    u32::put(part, 4, u32::from(extent.nulls))?;
+    u32::put(part, 8, oid)?;
     put_dimensions(part, dims)?;
     write_elements(serializer, part, start)
 }
@@ -89,8 +90,8 @@ fn put_dimension(part: &mut [u8], at: usize, dim: ArrayDimension) -> Result<usiz
     ensures answer { result ≡ Ok (at + 8) }
     ensures after { part.new ≡ put at (dimension dim) part.old }
 {
-    let at = put_i32(part, at, dim.len)?;
-    put_i32(part, at, dim.lower_bound)
+    let at = i32::put(part, at, dim.len)?;
+    i32::put(part, at, dim.lower_bound)
 }
 
 // Writes the dimensions behind the three words of the head.

@@ -13,7 +13,9 @@ use crate::words::DimensionNotation;
 use answers::parts::push_parts;
 use answers::plain::{bad_request, push_flag, refusal};
 use answers::written::{blank_part, print_written};
+use arrayview::dimensions::Dimensions;
 use arrayview::read::Array;
+use arrayview::values::Values;
 use items::parse::parse_items;
 use notation::list::parse_list;
 use std::alloc::{AllocError, Global};
@@ -42,15 +44,9 @@ fn print_array(heap: Global, array: &Array<'_>) -> Result<Vec<u8>, AllocError>
     out.extend_from_slice(b" oid=")?;
     push_decimal(&mut out, u64::from(array.element_type()))?;
     out.extend_from_slice(b" dims=")?;
-    let mut dimensions = DimensionTexts {
-        cursor: array.dimensions(),
-    };
-    push_parts(heap, &mut out, &mut dimensions)?;
+    push_parts::<Dimensions, DimensionTexts>(&mut out, array.dimensions())?;
     out.extend_from_slice(b" values=")?;
-    let mut values = ValueTexts {
-        cursor: array.values(),
-    };
-    push_parts(heap, &mut out, &mut values)?;
+    push_parts::<Values, ValueTexts>(&mut out, array.values())?;
     Ok(out)
 }
 

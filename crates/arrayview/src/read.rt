@@ -2,14 +2,16 @@
 ghost use Rattle.std.specs.Prelude.{◌≡◌, ◌+◌, ◌*◌, ◌^◌, ◌<◌};
 ghost use Rattle.array.specs.Laws.{ReadsBack, OnlyForms};
 ghost use Rattle.array.specs.Recv.{array_recv, product_at, product_from, at_dimensions, at_values};
+ghost use Rattle.wire.specs.Cursors.{state};
 ghost use Rattle.wire.specs.Words.{then, i32_at, count_at};
-ghost use Rattle.arrayview.specs.Views.{opened, told_array, dimensions_state, values_state};
+ghost use Rattle.arrayview.specs.Views.{opened, told_array};
 
 use crate::dimensions::ArrayDimensions;
 use crate::values::ArrayValues;
 use fault::{Fault, Rule};
 use wire::oid::Oid;
-use wire::read::{read_count, read_i32, read_u32};
+use wire::read::read_count;
+use wire::word::Word;
 
 // An opened array.
 #[derive(Clone, Copy)]
@@ -30,8 +32,8 @@ pub fn array_from_sql(buf: &[u8]) -> Result<Array<'_>, Fault>
     ensures only_forms { OnlyForms buf.now }
 {
     let count = read_count(buf, 0)?;
-    let flag = read_u32(buf, 4)?;
-    let oid = read_u32(buf, 8)?;
+    let flag = u32::read(buf, 4)?;
+    let oid = u32::read(buf, 8)?;
     let product = read_product(buf, count)?;
     Ok(Array {
         buf,
@@ -62,7 +64,7 @@ fn read_factor(buf: &[u8], at: usize, product: usize) -> Result<usize, Fault>
     ensures { result ≡ then (count_at buf.now at) (λ len. then (i32_at buf.now (at + 4)) (λ _. product_at at (product * len))) }
 {
     let len = read_count(buf, at)?;
-    read_i32(buf, at + 4)?;
+    i32::read(buf, at + 4)?;
     let product = product * len;
     if product > 2_147_483_647 {
         return Err(Fault::new(Rule::Product, at));
@@ -85,14 +87,14 @@ impl<'a> Array<'a> {
     }
 
     pub fn dimensions(&self) -> ArrayDimensions<'a>
-        ensures { dimensions_state result ≡ at_dimensions (opened self.now) }
+        ensures { state result ≡ at_dimensions (opened self.now) }
     {
         let end = self.start.min(self.buf.len());
         ArrayDimensions::new(&self.buf[..end], 12, self.count)
     }
 
     pub fn values(&self) -> ArrayValues<'a>
-        ensures { values_state result ≡ at_values (opened self.now) }
+        ensures { state result ≡ at_values (opened self.now) }
     {
         ArrayValues::new(self.buf, self.start, self.elements)
     }

@@ -8,7 +8,7 @@ use double::point::Point;
 use double::word::{from_word, to_word};
 use fault::{Fault, Rule};
 use wire::oid::IsNull;
-use wire::write::{put_i32, put_i64, put_u64};
+use wire::word::Word;
 
 // A double as an element, by its word of eight bytes.
 #[derive(Clone, Copy, PartialEq, Eq, Debug)]
@@ -16,17 +16,19 @@ pub struct DoubleWord {
     word: u64,
 }
 
-impl DoubleWord {
-    pub fn new(x: f64) -> DoubleWord
-        ensures { result ≡ word_of x }
-    {
+impl From<f64> for DoubleWord {
+    ghost from_gives = { λ x w. w ≡ word_of x };
+
+    fn from(x: f64) -> DoubleWord {
         DoubleWord { word: to_word(x) }
     }
+}
 
-    pub fn double(self) -> f64
-        ensures { result ≡ word_double self.word }
-    {
-        from_word(self.word)
+impl From<DoubleWord> for f64 {
+    ghost from_gives = { λ w x. x ≡ word_double w.word };
+
+    fn from(double: DoubleWord) -> f64 {
+        from_word(double.word)
     }
 }
 
@@ -37,10 +39,10 @@ pub struct PointWords {
     y: u64,
 }
 
-impl PointWords {
-    pub fn new(point: Point) -> PointWords
-        ensures { result ≡ words_of point }
-    {
+impl From<Point> for PointWords {
+    ghost from_gives = { λ p w. w ≡ words_of p };
+
+    fn from(point: Point) -> PointWords {
         PointWords {
             x: to_word(point.x()),
             y: to_word(point.y()),
@@ -58,7 +60,7 @@ impl Element for i32 {
     }
 
     fn write(&self, part: &mut [u8]) -> Result<IsNull, Fault> {
-        put_i32(part, 0, *self)?;
+        i32::put(part, 0, *self)?;
         Ok(IsNull::No)
     }
 }
@@ -73,7 +75,7 @@ impl Element for i64 {
     }
 
     fn write(&self, part: &mut [u8]) -> Result<IsNull, Fault> {
-        put_i64(part, 0, *self)?;
+        i64::put(part, 0, *self)?;
         Ok(IsNull::No)
     }
 }
@@ -88,7 +90,7 @@ impl Element for DoubleWord {
     }
 
     fn write(&self, part: &mut [u8]) -> Result<IsNull, Fault> {
-        put_u64(part, 0, self.word)?;
+        u64::put(part, 0, self.word)?;
         Ok(IsNull::No)
     }
 }
@@ -106,8 +108,8 @@ impl Element for PointWords {
         if part.len() < 16 {
             return Err(Fault::new(Rule::NoRoom, 0));
         }
-        put_u64(part, 0, self.x)?;
-        put_u64(part, 8, self.y)?;
+        u64::put(part, 0, self.x)?;
+        u64::put(part, 8, self.y)?;
         Ok(IsNull::No)
     }
 }
@@ -119,10 +121,7 @@ impl<T: Element> Element for Option<T> {
     ghost small = { λ o. optional_small T.Element.value T.Element.small o };
 
     fn size(&self) -> Option<usize> {
-        match self {
-            Some(element) => element.size(),
-            None => None,
-        }
+        self.as_ref()?.size()
     }
 
     fn write(&self, part: &mut [u8]) -> Result<IsNull, Fault> {

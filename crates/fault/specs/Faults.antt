@@ -1,7 +1,8 @@
 -- Faults: the number of each rule, and how a fault moves up a level.
-use Rattle.std.specs.Prelude.{ℕ, ◌+◌, ◌-◌, ◌^◌, min, max, cond, Some, None, Option, nat_le}
+use Rattle.std.specs.Prelude.{◌≡◌, ℕ, Bool, true, false, refl, ◌+◌, ◌-◌, ◌^◌, min, cond, Some, None, Option, nat_le}
 use Rattle.std.specs.Option.{option_map}
-use Rattle.fault.specs.declared.Foreign.{Foreign}
+use Rattle.std.proofs.lemmas.Bool.{leb-true}
+use Rattle.fault.specs.declared.numbers.Foreign.{Foreign}
 use Rattle.fault.specs.declared.Fault.{Fault}
 use Rattle.fault.specs.declared.Rule.{Rule}
 use Rattle.fault.specs.declared.Rule.TheVariants.{Truncated, Overrun, Trailing, Negative, Product, NotText, Mask, Octets, Family, Missing, NoRoom, TooGreat, Dimensions, BitBytes, OutsidePool, TableFull, AbsentKey, Other}
@@ -25,11 +26,18 @@ number BitBytes = 14
 number OutsidePool = 15
 number TableFull = 16
 number AbsentKey = 17
-number (Other f) = max f.number 128
+number (Other f) = f.number
 
 -- another implementation's number is 128 or more
 abbrev pub foreign : ℕ → Option ℕ
 foreign n = cond (nat_le 128 n) (Some n) None
+
+abbrev pub with_number : (n : ℕ) (b : Bool) → nat_le 128 n ≡ b → Option Foreign
+with_number n true e = Some (record { number = n; least = leb-true 128 n e })
+with_number n false e = None
+
+abbrev pub foreign_of : ℕ → Option Foreign
+foreign_of n = with_number n (nat_le 128 n) refl
 
 abbrev pub told_foreign : Option Foreign → Option ℕ
 told_foreign o = option_map (λ f. f.number) o

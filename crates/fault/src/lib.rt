@@ -2,26 +2,11 @@
 #![tactic(auto)]
 
 ghost use Rattle.std.specs.Prelude.{◌≡◌};
-ghost use Rattle.fault.specs.Faults.{number, fault, raise, up, foreign, told_foreign};
+ghost use Rattle.fault.specs.Faults.{number, fault, raise, up};
 
-// The number of a fault of another implementation: 128 to 255. The field is private, so `new` makes
-// every value that there is; `number` holds of any other value too.
-#[derive(Clone, Copy, PartialEq, Eq, Debug)]
-pub struct Foreign {
-    number: u8,
-}
+mod numbers;
 
-impl Foreign {
-    // None for a number below 128.
-    pub fn new(number: u8) -> Option<Foreign>
-        ensures { told_foreign result ≡ foreign number }
-    {
-        if number < 128 {
-            return None;
-        }
-        Some(Foreign { number })
-    }
-}
+pub use numbers::Foreign;
 
 // The rule that was broken. `number` gives the number of each.
 #[derive(Clone, Copy, PartialEq, Eq, Debug)]
@@ -87,7 +72,7 @@ impl Rule {
             Rule::OutsidePool => 15,
             Rule::TableFull => 16,
             Rule::AbsentKey => 17,
-            Rule::Other(foreign) => foreign.number.max(128),
+            Rule::Other(foreign) => foreign.number(),
         }
     }
 }

@@ -1,23 +1,20 @@
 -- Points and boxes, there and back.
-use Rattle.std.proofs.Common.{◌≡◌, ℕ, ◌+◌, ◌^◌, ◌<◌, ◌≤◌, Bool, true, false, cond, T, ltb, List, ◌++◌, length, take, drop, Ok, Err, sym, refl, ap, ◌∙◌, subst, arith, take-add}
+use Rattle.std.proofs.Common.{◌≡◌, ℕ, ◌+◌, ◌^◌, ◌<◌, ◌≤◌, T, List, ◌++◌, length, take, drop, Ok, sym, ap, ◌∙◌, subst, arith, take-add}
 use lib.Ieee.{binary64}
 use lib.Ieee.Bits.{of_bits-to_bits, to_bits-lt}
 use Rattle.std.proofs.lemmas.List.{take_all, take-append-drop, length-drop, drop-drop}
-use Rattle.std.proofs.lemmas.Bool.{ltb-false}
-use Rattle.fault.specs.declared.Rule.TheVariants.{Trailing}
-use Rattle.fault.specs.Faults.{fault}
 use Rattle.double.specs.declared.point.Box.{Box}
 use Rattle.double.specs.declared.point.Point.{Point}
 use Rattle.double.specs.Doubles.{double_word, word_double}
 use Rattle.double.specs.Points.{point, corners}
 use Rattle.wire.specs.Bytes.{Octets}
-use Rattle.wire.specs.Words.{be, then, u64_at}
+use Rattle.wire.specs.Words.{be, ended, then, u64_at}
 use Rattle.wire.proofs.Reading.{word_lt}
-use Rattle.wire.proofs.Taking.{then_ok, uint_ok}
+use Rattle.wire.proofs.Taking.{then_ok, uint_ok, ended_ok}
 use Rattle.wire.proofs.Wording.{number_be, be_word}
 use Rattle.geometry.specs.Laws.{PointForm, PointReads, BoxReads, Doubles, PointDistinct, BoxDistinct}
-use Rattle.geometry.specs.Layout.{point_layout}
-use Rattle.geometry.specs.Recv.{point_at, point_recv, box_recv, whole}
+use Rattle.geometry.specs.Layout.{point_layout, box_layout}
+use Rattle.geometry.specs.Recv.{point_at, point_recv, box_recv}
 
 -- the words of a point, and of a box
 pub point_words : (x y : ℕ) → x < 2 ^ 64 → y < 2 ^ 64 → point_recv (be 8 x ++ be 8 y) ≡ Ok (point (word_double x) (word_double y))
@@ -37,14 +34,6 @@ point_same p x y e f = ap (λ n. be 8 n ++ be 8 y) e ∙ ap (λ n. be 8 (double_
 
 pub point_back : (p : Point) (x y : ℕ) → word_double x ≡ p.x → word_double y ≡ p.y → point (word_double x) (word_double y) ≡ p
 point_back p x y e f = ap (λ d. point d (word_double y)) e ∙ ap (point p.x) f
-
--- no byte remains
-whole_by : {X : Type 0} (bs : List ℕ) (end : ℕ) (x y : X) (b : Bool) → ltb end (length bs) ≡ b → cond b (Err (fault Trailing end)) (Ok x) ≡ Ok y → (length bs ≤ end) × (x ≡ y)
-whole_by bs end x y true t e = let z : ◌≡◌ {A = ℕ} 0 1 = cc in absurd (omega arith)
-whole_by bs end x y false t e = (ltb-false end (length bs) t, cc)
-
-whole_ok : {X : Type 0} (bs : List ℕ) (end : ℕ) (x y : X) → whole bs end x ≡ Ok y → (length bs ≤ end) × (x ≡ y)
-whole_ok bs end x y e = whole_by bs end x y (ltb end (length bs)) refl e
 
 -- what a point was read from
 pub point_formed : (bs : List ℕ) (at : ℕ) (p : Point) → Octets bs → point_at bs at ≡ Ok p → (at + 16 ≤ length bs) × PointForm p (take 16 (drop at bs))
@@ -74,8 +63,8 @@ pub point_reads : (bs : List ℕ) → Octets bs → PointReads bs
 point_reads bs small p = (
   λ f. ap point_recv f.bytes ∙ point_words f.x_word f.y_word f.x_fits f.y_fits ∙ ap Ok (sym f.is),
   λ e.
-      let t = then_ok (point_at bs 0) (whole bs 16) p e in
-      let w = whole_ok bs 16 t.0 p t.2 in
+      let t = then_ok (point_at bs 0) (ended bs 16) p e in
+      let w = ended_ok bs 16 t.0 p t.2 in
       let f = point_formed bs 0 t.0 small t.1 in
       subst (λ l. PointForm p l) (take_all 16 bs w.0) (subst (λ q. PointForm q (take 16 bs)) w.1 f.1),
 )
@@ -91,9 +80,9 @@ box_reads bs small b = (
       ∙ box_words u.x_word u.y_word l.x_word l.y_word u.x_fits u.y_fits l.x_fits l.y_fits
       ∙ ap Ok corner,
   λ e.
-      let t = then_ok (point_at bs 0) (λ p. then (point_at bs 16) (λ q. whole bs 32 (corners p q))) b e in
-      let u = then_ok (point_at bs 16) (λ q. whole bs 32 (corners t.0 q)) b t.2 in
-      let w = whole_ok bs 32 (corners t.0 u.0) b u.2 in
+      let t = then_ok (point_at bs 0) (λ p. then (point_at bs 16) (λ q. ended bs 32 (corners p q))) b e in
+      let u = then_ok (point_at bs 16) (λ q. ended bs 32 (corners t.0 q)) b t.2 in
+      let w = ended_ok bs 32 (corners t.0 u.0) b u.2 in
       let first = point_formed bs 0 t.0 small t.1 in
       let second = point_formed bs 16 u.0 small u.1 in
       let short : length (drop 16 bs) ≤ 16 = simp length-drop (omega (arith, w.0)) in
@@ -114,6 +103,19 @@ point_read p d =
     let fy = subst T (sym d.1) tt in
     point_words (double_word p.x) (double_word p.y) (to_bits-lt binary64 p.x fx) (to_bits-lt binary64 p.y fy)
     ∙ ap Ok (point_back p (double_word p.x) (double_word p.y) (of_bits-to_bits binary64 p.x fx) (of_bits-to_bits binary64 p.y fy))
+
+-- so is a box
+pub box_read : (b : Box) → Doubles b.upper_right → Doubles b.lower_left → box_recv (box_layout b) ≡ Ok b
+box_read b d e =
+    let fx = subst T (sym d.0) tt in
+    let fy = subst T (sym d.1) tt in
+    let gx = subst T (sym e.0) tt in
+    let gy = subst T (sym e.1) tt in
+    let upper = b.upper_right in
+    let lower = b.lower_left in
+    box_words (double_word upper.x) (double_word upper.y) (double_word lower.x) (double_word lower.y) (to_bits-lt binary64 upper.x fx) (to_bits-lt binary64 upper.y fy) (to_bits-lt binary64 lower.x gx) (to_bits-lt binary64 lower.y gy)
+    ∙ ap (λ p. Ok (corners p (point (word_double (double_word lower.x)) (word_double (double_word lower.y))))) (point_back upper (double_word upper.x) (double_word upper.y) (of_bits-to_bits binary64 upper.x fx) (of_bits-to_bits binary64 upper.y fy))
+    ∙ ap (λ p. Ok (corners upper p)) (point_back lower (double_word lower.x) (double_word lower.y) (of_bits-to_bits binary64 lower.x gx) (of_bits-to_bits binary64 lower.y gy))
 
 pub point_distinct : (p : Point) → point_recv (point_layout p) ≡ Ok p → PointDistinct p
 point_distinct p read q d e = let a = point_read q d in let b = ap point_recv e in cc

@@ -4,8 +4,9 @@ ghost use Rattle.geometry.specs.Laws.{PointReads, BoxReads};
 ghost use Rattle.geometry.specs.Recv.{point_at, point_recv, box_recv};
 
 use double::point::{Box, Point};
-use fault::{Fault, Rule};
-use wire::read::read_u64;
+use fault::Fault;
+use wire::read::read_end;
+use wire::word::Word;
 
 // The point that the bytes are.
 pub fn point_from_sql(buf: &[u8]) -> Result<Point, Fault>
@@ -27,9 +28,7 @@ fn read_point(buf: &[u8]) -> Result<Point, Fault>
     ensures { result ≡ point_recv buf.now }
 {
     let point = read_point_at(buf, 0)?;
-    if buf.len() > 16 {
-        return Err(Fault::new(Rule::Trailing, 16));
-    }
+    read_end(buf, 16)?;
     Ok(point)
 }
 
@@ -38,9 +37,7 @@ fn read_box(buf: &[u8]) -> Result<Box, Fault>
 {
     let upper_right = read_point_at(buf, 0)?;
     let lower_left = read_point_at(buf, 16)?;
-    if buf.len() > 32 {
-        return Err(Fault::new(Rule::Trailing, 32));
-    }
+    read_end(buf, 32)?;
     Ok(Box::new(upper_right, lower_left))
 }
 
@@ -48,8 +45,8 @@ fn read_box(buf: &[u8]) -> Result<Box, Fault>
 pub fn read_point_at(buf: &[u8], at: usize) -> Result<Point, Fault>
     ensures { result ≡ point_at buf.now at }
 {
-    let x = read_u64(buf, at)?;
+    let x = u64::read(buf, at)?;
     // The first word is there, so this sum does not overflow.
-    let y = read_u64(buf, at + 8)?;
+    let y = u64::read(buf, at + 8)?;
     Ok(Point::from_words(x, y))
 }

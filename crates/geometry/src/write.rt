@@ -1,16 +1,16 @@
 //! Writing points and boxes.
-ghost use Rattle.std.specs.Prelude.{◌≡◌, ◌+◌, ◌≤◌, ◌++◌, length, Ok};
+ghost use Rattle.std.specs.Prelude.{◌≡◌, ◌+◌, ◌≤◌, length, Ok};
 ghost use Rattle.double.specs.Points.{point, corners};
 ghost use Rattle.wire.specs.Bytes.{put};
-ghost use Rattle.wire.specs.Encoding.{told, laid, room_for};
-ghost use Rattle.wire.specs.Words.{be};
+ghost use Rattle.wire.specs.Encoding.{told, laid, told_at, laid_at, room_for};
 ghost use Rattle.geometry.specs.Laws.{PointDistinct, BoxDistinct};
-ghost use Rattle.geometry.specs.Layout.{point_layout, box_layout};
+ghost use Rattle.geometry.specs.Layout.{point_layout, points_layout, box_layout};
 ghost use Rattle.geometry.specs.Recv.{point_recv, box_recv};
 
+use double::point::Point;
 use double::word::to_word;
 use fault::{Fault, Rule};
-use wire::write::put_u64;
+use wire::word::Word;
 
 // Writes a point to the start of the part, and answers the number of bytes. A NaN is written as the
 // one NaN.
@@ -20,7 +20,7 @@ pub fn point_to_sql(x: f64, y: f64, part: &mut [u8]) -> Result<usize, Fault>
     ensures written_back { point_recv (point_layout (point x y)) ≡ Ok (point x y) }
     ensures distinct { PointDistinct (point x y) }
 {
-    write_point(to_word(x), to_word(y), part)
+    put_points(part, 0, &[Point::new(x, y)])
 }
 
 // Writes a box to the start of the part, the upper right corner first, and answers the number of
@@ -31,38 +31,30 @@ pub fn box_to_sql(x1: f64, y1: f64, x2: f64, y2: f64, part: &mut [u8]) -> Result
     ensures written_back { box_recv (box_layout (corners (point x1 y1) (point x2 y2))) ≡ Ok (corners (point x1 y1) (point x2 y2)) }
     ensures distinct { BoxDistinct (corners (point x1 y1) (point x2 y2)) }
 {
-    write_box(to_word(x1), to_word(y1), to_word(x2), to_word(y2), part)
+    put_points(part, 0, &[Point::new(x1, y1), Point::new(x2, y2)])
 }
 
-// Writes two words to the start of the part.
-fn write_point(x: u64, y: u64, part: &mut [u8]) -> Result<usize, Fault>
-    ensures answer { result ≡ told (room_for (length part.old) (Ok (be 8 x ++ be 8 y))) }
-    ensures after { part.new ≡ laid (room_for (length part.old) (Ok (be 8 x ++ be 8 y))) part.old }
+// Writes points from `at` on, and answers the place behind them; rule 11 at 0 where they do not fit.
+pub fn put_points(part: &mut [u8], at: usize, points: &[Point]) -> Result<usize, Fault>
+    ensures answer { result ≡ told_at at (points_layout points.now) part.old }
+    ensures after { part.new ≡ laid_at at (points_layout points.now) part.old }
 {
-    if part.len() < 16 {
+    if part.len() < at || part.len() - at < 16 * points.len() {
         return Err(Fault::new(Rule::NoRoom, 0));
     }
-    put_words(part, 0, x, y)
-}
-
-// Writes four words to the start of the part.
-fn write_box(x1: u64, y1: u64, x2: u64, y2: u64, part: &mut [u8]) -> Result<usize, Fault>
-    ensures answer { result ≡ told (room_for (length part.old) (Ok ((be 8 x1 ++ be 8 y1) ++ (be 8 x2 ++ be 8 y2)))) }
-    ensures after { part.new ≡ laid (room_for (length part.old) (Ok ((be 8 x1 ++ be 8 y1) ++ (be 8 x2 ++ be 8 y2)))) part.old }
-{
-    if part.len() < 32 {
-        return Err(Fault::new(Rule::NoRoom, 0));
+    let mut end = at;
+    for point in points {
+        end = put_point(part, end, *point)?;
     }
-    put_words(part, 0, x1, y1)?;
-    put_words(part, 16, x2, y2)
+    Ok(end)
 }
 
-// Writes two words at `at`, where there is room, and answers the place behind them.
-fn put_words(part: &mut [u8], at: usize, x: u64, y: u64) -> Result<usize, Fault>
+// Writes a point at `at`, where there is room, and answers the place behind it.
+fn put_point(part: &mut [u8], at: usize, point: Point) -> Result<usize, Fault>
     requires { at + 16 ≤ length part.old }
     ensures answer { result ≡ Ok (at + 16) }
-    ensures after { part.new ≡ put at (be 8 x ++ be 8 y) part.old }
+    ensures after { part.new ≡ put at (point_layout point) part.old }
 {
-    let next = put_u64(part, at, x)?;
-    put_u64(part, next, y)
+    let next = u64::put(part, at, to_word(point.x()))?;
+    u64::put(part, next, to_word(point.y()))
 }

@@ -12,7 +12,8 @@ use crate::entry::HstoreEntry;
 use fault::{Fault, Rule};
 use texts::place::Place;
 use texts::pools::Pools;
-use wire::write::{from_usize, put_bytes, put_i32};
+use wire::word::Word;
+use wire::write::{from_usize, put_bytes};
 
 // Writes the entries to the start of the part, in their order, and answers the number of bytes. An
 // absent key is refused first, then the first text that is none; all is tested before a byte is
@@ -51,7 +52,7 @@ fn encode(pools: Pools<'_>, entries: &[HstoreEntry], part: &mut [u8]) -> Result<
     if part.len() < 4 || part.len() - 4 < bytes {
         return Err(Fault::new(Rule::NoRoom, 0));
     }
-    put_i32(part, 0, count)?;
+    i32::put(part, 0, count)?;
     write_entries(pools, entries, part)
 }
 
@@ -115,12 +116,12 @@ fn put_text(pools: Pools<'_>, place: Place, part: &mut [u8], at: usize) -> Resul
     ensures after { part.new ≡ put at (nullable (place_value (pool_pair pools.entry) place)) part.old }
 {
     let span = match place {
-        Place::Absent => return put_i32(part, at, -1),
+        Place::Absent => return i32::put(part, at, -1),
         Place::At(span) => span,
     };
     let Some(text) = pools.lookup(span) else {
         return Err(Fault::new(Rule::OutsidePool, 0));
     };
-    let at = put_i32(part, at, from_usize(text.len(), 0)?)?;
+    let at = i32::put(part, at, from_usize(text.len(), 0)?)?;
     put_bytes(part, at, text)
 }

@@ -1,44 +1,29 @@
 //! The entries of an hstore that is read, as words.
-ghost use Rattle.std.specs.Prelude.{◌≡◌, IfOk};
+ghost use Rattle.answers.proofs.Steps.{shows};
 ghost use Rattle.answers.specs.Parts.{texts_of};
-ghost use Rattle.answers.specs.Plain.{seen_value};
 ghost use Rattle.hstore.specs.Recv.{read_entry};
-ghost use Rattle.hstoreview.specs.Views.{entries_state};
+ghost use Rattle.hstoreview.specs.Views.{seen_entry};
 ghost use Rattle.hstoreline.specs.Hstores.{entry_text};
 
-use answers::parts::Parts;
+use answers::parts::PartText;
 use answers::plain::{push_bytes, push_value};
-use fault::Fault;
-use hstoreview::entries::HstoreEntries;
-use std::alloc::{AllocError, Global};
+use hstoreview::entries::Entries;
+use std::alloc::AllocError;
 
-// The entries, each as xKEY=xVALUE or xKEY=NULL.
-#[derive(Clone, Copy)]
-pub struct EntryTexts<'a> {
-    pub cursor: HstoreEntries<'a>,
-}
+// An entry as xKEY=xVALUE or xKEY=NULL.
+pub struct EntryTexts;
 
-impl<'a> Parts for EntryTexts<'a> {
-    ghost state = { λ t. entries_state t.cursor };
+impl<'a> PartText<'a, Entries> for EntryTexts {
+    ghost text = { λ e. entry_text (seen_entry e) };
 
     ghost reads = { texts_of entry_text read_entry };
 
-    fn next_text(&mut self, heap: Global) -> Result<Result<Option<Vec<u8>>, Fault>, AllocError> {
-        match self.cursor.next() {
-            Ok(Some((key, value))) => Ok(Ok(Some(print_entry(heap, key, value)?))),
-            Ok(None) => Ok(Ok(None)),
-            Err(fault) => Ok(Err(fault)),
-        }
-    }
-}
+    ghost shows = { shows entry_text read_entry seen_entry };
 
-// xKEY=xVALUE or xKEY=NULL
-fn print_entry(heap: Global, key: &[u8], value: Option<&[u8]>) -> Result<Vec<u8>, AllocError>
-    ensures { IfOk result (λ v. v.items ≡ entry_text (key.now, seen_value value.entry)) }
-{
-    let mut out = Vec::new(heap);
-    push_bytes(&mut out, key)?;
-    out.push(b'=')?;
-    push_value(&mut out, value)?;
-    Ok(out)
+    fn push(out: &mut Vec<u8>, entry: (&'a [u8], Option<&'a [u8]>)) -> Result<(), AllocError> {
+        let (key, value) = entry;
+        push_bytes(out, key)?;
+        out.push(b'=')?;
+        push_value(out, value)
+    }
 }

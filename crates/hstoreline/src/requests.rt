@@ -2,7 +2,7 @@
 ghost use Rattle.std.specs.Prelude.{◌≡◌, IfOk};
 ghost use Rattle.answers.specs.Plain.{answered};
 ghost use Rattle.hstore.specs.Recv.{hstore_recv};
-ghost use Rattle.hstoreview.specs.Views.{entries_state};
+ghost use Rattle.wire.specs.Cursors.{state};
 ghost use Rattle.syntax.specs.Parsed.{bytes_in};
 ghost use Rattle.hstoreline.specs.Hstores.{hstore_text, hstore_answer, hstore_written};
 
@@ -11,7 +11,7 @@ use crate::words::parse_entries;
 use answers::parts::push_parts;
 use answers::plain::{bad_request, refusal};
 use answers::written::{blank_part, print_written};
-use hstoreview::entries::HstoreEntries;
+use hstoreview::entries::{Entries, HstoreEntries};
 use std::alloc::{AllocError, Global};
 use syntax::parse::parse_bytes;
 use texts::pools::Pools;
@@ -31,11 +31,10 @@ pub fn hstore_from_sql(heap: Global, argument: &[u8]) -> Result<Vec<u8>, AllocEr
 
 // All that the cursor gives.
 fn print_entries(heap: Global, entries: HstoreEntries<'_>) -> Result<Vec<u8>, AllocError>
-    ensures { IfOk result (λ v. v.items ≡ hstore_text (entries_state entries.entry)) }
+    ensures { IfOk result (λ v. v.items ≡ hstore_text (state entries.entry)) }
 {
     let mut out = Vec::from_slice(heap, b"hstore ")?;
-    let mut texts = EntryTexts { cursor: entries };
-    push_parts(heap, &mut out, &mut texts)?;
+    push_parts::<Entries, EntryTexts>(&mut out, entries)?;
     Ok(out)
 }
 

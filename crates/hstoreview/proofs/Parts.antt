@@ -16,12 +16,3 @@ module _ (bs : List ℕ) (at : ℕ) {v : Value} (read : Ok v ≡ value_at bs at)
 
   pub key_text : (raw t : List ℕ) → v ≡ Some raw → Ok t ≡ text_at (at + 4) raw → key_at bs at ≡ Ok t
   key_text raw t is text = ap (λ r. then r (key_in at)) (sym read ∙ ap Ok is) ∙ sym text
-
--- the step of a cursor that reads an entry, by the place behind it
-pub step_entry : (s : State) (x : Entry) (end : ℕ) → s.met ≡ None → (s.left ≡ 0 → ⊥) → Ok (x, end - s.place) ≡ read_entry s.bytes s.place → step read_entry s ≡ (Ok (Some x), record { bytes = s.bytes; place = end; left = s.left - 1; met = s.met })
-step_entry s x end unmet more read =
-    let size = (entry_ok s.bytes s.place (end - s.place) x (sym read)).size in
-    let place : s.place + (end - s.place) ≡ end = omega arith in
-    ap (λ m. next_of read_entry m s) unmet ∙ cond-false _ _ _ (ne_eqb s.left 0 more) ∙ ap (λ r. taken r s) (sym read)
-    ∙ ap (λ at. (Ok (Some x), record { bytes = s.bytes; place = at; left = s.left - 1; met = None })) place
-    ∙ ap (λ m. (Ok (Some x), record { bytes = s.bytes; place = end; left = s.left - 1; met = m })) (sym unmet)

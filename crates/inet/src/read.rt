@@ -5,7 +5,7 @@ ghost use Rattle.inet.specs.Laws.{LaidOut};
 
 use crate::address::{Inet, IpAddr};
 use fault::{Fault, Rule};
-use wire::read::{read_u32, read_u64};
+use wire::word::Word;
 
 // The address and mask that the bytes are. The third byte is ignored.
 pub fn inet_from_sql(buf: &[u8]) -> Result<Inet, Fault>
@@ -18,13 +18,13 @@ pub fn inet_from_sql(buf: &[u8]) -> Result<Inet, Fault>
     match buf[0] {
         2 => {
             let netmask = read_netmask(buf, 32, 4)?;
-            let addr = read_u32(buf, 4)?;
+            let addr = u32::read(buf, 4)?;
             Ok(Inet::new(IpAddr::V4(addr), netmask))
         }
         3 => {
             let netmask = read_netmask(buf, 128, 16)?;
-            let high = read_u64(buf, 4)?;
-            let low = read_u64(buf, 12)?;
+            let high = u64::read(buf, 4)?;
+            let low = u64::read(buf, 12)?;
             Ok(Inet::new(IpAddr::V6(high, low), netmask))
         }
         _ => Err(Fault::new(Rule::Family, 0)),

@@ -7,7 +7,8 @@ ghost use Rattle.inet.specs.Laws.{ReadsBack, Distinct};
 
 use crate::address::IpAddr;
 use fault::{Fault, Rule};
-use wire::write::{put_bytes, put_u32, put_u64};
+use wire::word::Word;
+use wire::write::put_bytes;
 
 // Writes an address and its mask to the start of the part, and answers the number of bytes. The
 // mask is written as it is, whatever the family.
@@ -32,10 +33,10 @@ fn put_octets(part: &mut [u8], addr: IpAddr) -> Result<usize, Fault>
     ensures after { part.new ≡ put 4 (octets addr) part.old }
 {
     match addr {
-        IpAddr::V4(a) => put_u32(part, 4, a),
+        IpAddr::V4(a) => u32::put(part, 4, a),
         IpAddr::V6(high, low) => {
-            let at = put_u64(part, 4, high)?;
-            put_u64(part, at, low)
+            let at = u64::put(part, 4, high)?;
+            u64::put(part, at, low)
         }
     }
 }

@@ -1,15 +1,16 @@
 -- How a request spells an item: NULL, a byte string, or ! and a fault of another implementation.
-use Rattle.std.specs.Prelude.{ℕ, ◌-◌, ◌^◌, cond, List, [], ◌∷◌, Some, None, Ok, Err, codes, Option, ◌==◌, nat_le}
+use Rattle.std.specs.Prelude.{ℕ, ◌-◌, ◌^◌, cond, List, [], ◌∷◌, Some, None, Ok, Err, codes, Option, ◌==◌}
 use Rattle.std.specs.Option.{option_map}
 use Rattle.std.specs.Str.{bytes_eq}
 use Rattle.fault.specs.declared.Fault.{Fault}
 use Rattle.fault.specs.declared.Rule.TheVariants.{Other}
+use Rattle.fault.specs.Faults.{foreign_of}
 use Rattle.syntax.specs.Parsed.{bytes_in, number_in, split_at}
 use Rattle.wire.specs.Items.{Item}
 use Rattle.items.specs.Slots.{counted}
 
 abbrev pub foreign_fault : Option ℕ → Option ℕ → Option ℕ → Option Fault
-foreign_fault (Some n) (Some place) (Some level) = cond (nat_le 128 n) (Some (record { rule = Other (record { number = n }); place = place; level = level })) None
+foreign_fault (Some n) (Some place) (Some level) = option_map (λ f. record { rule = Other f; place = place; level = level }) (foreign_of n)
 foreign_fault (Some n) (Some place) None = None
 foreign_fault (Some n) None level = None
 foreign_fault None place level = None

@@ -10,7 +10,7 @@ use Rattle.double.specs.declared.point.Point.{Point}
 use Rattle.double.specs.Doubles.{double_word, word_double}
 use Rattle.double.specs.Points.{point}
 use Rattle.geometry.specs.Laws.{Doubles, PointForm}
-use Rattle.geometry.specs.Layout.{point_layout}
+use Rattle.geometry.specs.Layout.{point_layout, points_layout}
 use Rattle.geometry.specs.Recv.{point_at}
 use Rattle.geometry.proofs.Laws.{point_formed, point_back, point_read, point_distinct}
 use Rattle.wire.specs.Bytes.{Octets}
@@ -22,7 +22,7 @@ use Rattle.wire.proofs.Reading.{uint_fits, word_lt}
 use Rattle.wire.proofs.Taking.{then_ok, uint_ok, count_ok}
 use Rattle.wire.proofs.Wording.{length_be, word_back, be_word}
 use Rattle.path.specs.Laws.{Form, Opens, ReadsBack, OnlyForms, WrittenBack, Distinct}
-use Rattle.path.specs.Layout.{points_layout, path_bytes, path_layout}
+use Rattle.path.specs.Layout.{path_bytes, path_layout}
 use Rattle.path.specs.Recv.{opened_with, path_recv, read_point, at_points}
 
 -- a word that stands behind others is read

@@ -1,15 +1,11 @@
 -- The layout of a path (path_send).
 use Rattle.std.specs.Prelude.{ℕ, ◌^◌, Bool, cond, List, ◌∷◌, ◌++◌, length, Ok, Err, nat_lt}
-use Rattle.std.specs.List.{flat_map}
 use Rattle.fault.specs.declared.Rule.TheVariants.{TooGreat}
 use Rattle.fault.specs.Faults.{fault}
 use Rattle.double.specs.declared.point.Point.{Point}
-use Rattle.geometry.specs.Layout.{point_layout}
+use Rattle.geometry.specs.Layout.{points_layout}
 use Rattle.wire.specs.Encoding.{Encoding}
 use Rattle.wire.specs.Words.{be}
-
-abbrev pub points_layout : List Point → List ℕ
-points_layout ps = flat_map point_layout ps
 
 -- a closed byte, the point count, the points
 abbrev pub path_bytes : ℕ → ℕ → List ℕ → List ℕ

@@ -1,12 +1,14 @@
 //! The view of a path.
 ghost use Rattle.std.specs.Prelude.{◌≡◌};
+ghost use Rattle.wire.specs.Cursors.{state};
 ghost use Rattle.path.specs.Laws.{ReadsBack, OnlyForms};
 ghost use Rattle.path.specs.Recv.{path_recv, at_points};
-ghost use Rattle.path.specs.Views.{opened, told_path, points_state};
+ghost use Rattle.path.specs.Views.{opened, told_path};
 
 use crate::points::PathPoints;
 use fault::Fault;
-use wire::read::{read_count, read_u8};
+use wire::read::read_count;
+use wire::word::Word;
 
 // An opened path.
 #[derive(Clone, Copy)]
@@ -28,7 +30,7 @@ pub fn path_from_sql(buf: &[u8]) -> Result<Path<'_>, Fault>
 fn open(buf: &[u8]) -> Result<Path<'_>, Fault>
     ensures { told_path result ≡ path_recv buf.now }
 {
-    let byte = read_u8(buf, 0)?;
+    let byte = u8::read(buf, 0)?;
     let count = read_count(buf, 1)?;
     Ok(Path {
         buf,
@@ -45,7 +47,7 @@ impl<'a> Path<'a> {
     }
 
     pub fn points(&self) -> PathPoints<'a>
-        ensures { points_state result ≡ at_points (opened self.now) }
+        ensures { state result ≡ at_points (opened self.now) }
     {
         PathPoints::new(self.buf, 5, self.count)
     }

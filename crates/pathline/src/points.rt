@@ -1,44 +1,29 @@
 //! The points of a path as words.
-ghost use Rattle.std.specs.Prelude.{◌≡◌, IfOk};
+ghost use Rattle.answers.proofs.Steps.{shows};
 ghost use Rattle.answers.specs.Parts.{texts_of};
 ghost use Rattle.path.specs.Recv.{read_point};
-ghost use Rattle.path.specs.Views.{points_state};
 ghost use Rattle.shapeline.specs.Words.{point_text, point_in};
 
-use answers::parts::Parts;
+use answers::parts::PartText;
 use double::point::Point;
-use fault::Fault;
 use notation::list::Notation;
-use path::points::PathPoints;
+use path::points::Points;
 use shapeline::words::{parse_point, push_point};
-use std::alloc::{AllocError, Global};
+use std::alloc::AllocError;
 
-// The points, each as W:W.
-#[derive(Clone, Copy)]
-pub struct PointTexts<'a> {
-    pub cursor: PathPoints<'a>,
-}
+// A point as W:W.
+pub struct PointTexts;
 
-impl<'a> Parts for PointTexts<'a> {
-    ghost state = { λ t. points_state t.cursor };
+impl<'a> PartText<'a, Points> for PointTexts {
+    ghost text = { point_text 58 };
 
     ghost reads = { texts_of (point_text 58) read_point };
 
-    fn next_text(&mut self, heap: Global) -> Result<Result<Option<Vec<u8>>, Fault>, AllocError> {
-        match self.cursor.next() {
-            Ok(Some(point)) => Ok(Ok(Some(print_point(heap, point)?))),
-            Ok(None) => Ok(Ok(None)),
-            Err(fault) => Ok(Err(fault)),
-        }
-    }
-}
+    ghost shows = { shows (point_text 58) read_point (λ p. p) };
 
-fn print_point(heap: Global, point: Point) -> Result<Vec<u8>, AllocError>
-    ensures { IfOk result (λ v. v.items ≡ point_text 58 point) }
-{
-    let mut out = Vec::new(heap);
-    push_point(&mut out, point, b':')?;
-    Ok(out)
+    fn push(out: &mut Vec<u8>, point: Point) -> Result<(), AllocError> {
+        push_point(out, point, b':')
+    }
 }
 
 // W:W

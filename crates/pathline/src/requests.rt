@@ -11,6 +11,7 @@ use answers::parts::push_parts;
 use answers::plain::{bad_request, push_flag, refusal};
 use answers::written::{blank_part, print_written};
 use notation::list::parse_list;
+use path::points::Points;
 use path::read::Path;
 use std::alloc::{AllocError, Global};
 use syntax::compare::same;
@@ -36,10 +37,7 @@ fn print_path(heap: Global, path: &Path<'_>) -> Result<Vec<u8>, AllocError>
     let mut out = Vec::from_slice(heap, b"path closed=")?;
     push_flag(&mut out, path.closed())?;
     out.push(b' ')?;
-    let mut points = PointTexts {
-        cursor: path.points(),
-    };
-    push_parts(heap, &mut out, &mut points)?;
+    push_parts::<Points, PointTexts>(&mut out, path.points())?;
     Ok(out)
 }
 

@@ -5,7 +5,8 @@ ghost use Rattle.range.specs.Recv.{bound_at, told_bound, told_range, range_recv}
 
 use crate::bound::{Range, RangeBound};
 use fault::{Fault, Rule};
-use wire::read::{read_u8, read_value};
+use wire::read::read_value;
+use wire::word::Word;
 
 // Reads a range whole. Every odd tag is the empty range, and unknown tag bits are ignored.
 pub fn range_from_sql(buf: &[u8]) -> Result<Range<'_>, Fault>
@@ -20,7 +21,7 @@ pub fn range_from_sql(buf: &[u8]) -> Result<Range<'_>, Fault>
 fn decode(buf: &[u8]) -> Result<Range<'_>, Fault>
     ensures { told_range result ≡ range_recv buf.now }
 {
-    let tag = read_u8(buf, 0)?;
+    let tag = u8::read(buf, 0)?;
     if tag & 1 != 0 {
         if buf.len() > 1 {
             return Err(Fault::new(Rule::Trailing, 1));

@@ -11,7 +11,7 @@ use crate::bound::RangeBound;
 use fault::{Fault, Rule};
 use serializer::nullable::write_nullable;
 use serializer::serializer::Serializer;
-use wire::write::put_u8;
+use wire::word::Word;
 
 // Writes the empty range to the start of the part, and answers the number of bytes.
 pub fn empty_range_to_sql(part: &mut [u8]) -> Result<usize, Fault>
@@ -19,7 +19,7 @@ pub fn empty_range_to_sql(part: &mut [u8]) -> Result<usize, Fault>
     ensures after { part.new ≡ laid (room_for (length part.old) (Ok empty_layout)) part.old }
     ensures written_back { range_recv empty_layout ≡ Ok None }
 {
-    put_u8(part, 0, 1)
+    u8::put(part, 0, 1)
 }
 
 // Writes a range to the start of the part, and answers the number of bytes. A bounded side names an
@@ -66,7 +66,7 @@ fn encode<S: Serializer>(
     if part.len() < 1 + first + second {
         return Err(Fault::new(Rule::NoRoom, 0));
     }
-    put_u8(part, 0, tag(lower, upper))?;
+    u8::put(part, 0, tag(lower, upper))?;
     let at = write_bound(lower, serializer, part, 1)?;
     write_bound(upper, serializer, part, at)
 }

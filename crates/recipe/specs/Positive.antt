@@ -1,6 +1,6 @@
 -- What the validator of positive numbers means.
 use Rattle.std.specs.Prelude.{◌≡◌, ℕ, zero, suc, ◌^◌, ◌<◌, ◌↔◌, List, ℤ, pos, negsuc, Ok, Err, Result}
-use Rattle.std.proofs.Common.{arith}
+use Rattle.std.proofs.Common.{arith, lit≤}
 use Rattle.fault.specs.declared.Fault.{Fault}
 use Rattle.fault.specs.declared.Rule.TheVariants.{Other}
 use Rattle.fault.specs.Faults.{fault}
@@ -12,7 +12,7 @@ use Rattle.bottoms.specs.Places.{int4_within}
 
 -- the number is not above 0: a rule of this crate's own, number 128, at 0
 abbrev pub not_above : Fault
-not_above = fault (Other (record { number = 128 })) 0
+not_above = fault (Other (record { number = 128; least = lit≤ tt })) 0
 
 -- accepted, where the number is above 0
 abbrev pub above : ℤ → Outcome

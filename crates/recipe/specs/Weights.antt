@@ -11,7 +11,7 @@ use Rattle.serializer.specs.Lists.{Short, item_at}
 
 -- the scale overflowed: a fault of this crate's own, number 200, at the ingredient
 abbrev pub overflow : ℕ → Fault
-overflow k = fault (Other (record { number = 200 })) k
+overflow k = fault (Other (record { number = 200; least = lit≤ tt })) k
 
 -- grams as a value: none is NULL, any other an int4
 abbrev pub int4 : Result (Option ℕ) Fault → Item

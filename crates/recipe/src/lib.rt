@@ -8,7 +8,7 @@ ghost use Rattle.recipe.specs.Weights.{overflow, int4, weighed, weights, weights
 use fault::{Fault, Foreign, Rule};
 use serializer::serializer::Serializer;
 use wire::oid::IsNull;
-use wire::write::put_u32;
+use wire::word::Word;
 
 pub mod positive;
 
@@ -76,7 +76,7 @@ impl<'a> Serializer for Weights<'a> {
     fn write(&self, k: usize, part: &mut [u8]) -> Result<IsNull, Fault> {
         match self.weight(k)? {
             Some(grams) => {
-                put_u32(part, 0, grams)?;
+                u32::put(part, 0, grams)?;
                 Ok(IsNull::No)
             }
             None => Ok(IsNull::Yes),

@@ -2,14 +2,14 @@
 ghost use Rattle.std.specs.Prelude.{◌≡◌, IfOk};
 ghost use Rattle.answers.specs.Plain.{answered};
 ghost use Rattle.record.specs.Recv.{record_recv};
-ghost use Rattle.record.specs.Views.{columns_state};
+ghost use Rattle.wire.specs.Cursors.{state};
 ghost use Rattle.syntax.specs.Parsed.{bytes_in};
 ghost use Rattle.recordline.specs.Records.{record_text, record_answer};
 
 use crate::columns::ColumnTexts;
 use answers::parts::push_parts;
 use answers::plain::{bad_request, refusal};
-use record::columns::RecordColumns;
+use record::columns::{Columns, RecordColumns};
 use std::alloc::{AllocError, Global};
 use syntax::parse::parse_bytes;
 
@@ -28,10 +28,9 @@ pub fn record_from_sql(heap: Global, argument: &[u8]) -> Result<Vec<u8>, AllocEr
 
 // All that the cursor gives.
 fn print_columns(heap: Global, columns: RecordColumns<'_>) -> Result<Vec<u8>, AllocError>
-    ensures { IfOk result (λ v. v.items ≡ record_text (columns_state columns.entry)) }
+    ensures { IfOk result (λ v. v.items ≡ record_text (state columns.entry)) }
 {
     let mut out = Vec::from_slice(heap, b"record ")?;
-    let mut texts = ColumnTexts { cursor: columns };
-    push_parts(heap, &mut out, &mut texts)?;
+    push_parts::<Columns, ColumnTexts>(&mut out, columns)?;
     Ok(out)
 }

@@ -1,40 +1,34 @@
 -- A word as a bare payload, at every width.
-use Rattle.std.proofs.Common.{◌≡◌, ℕ, ◌^◌, ◌<◌, ◌≤◌, Bool, true, false, cond, ltb, List, [], length, ℤ, Ok, Err, Result, sym, refl, ap, ◌∙◌, subst, arith, SFits, to_z, of_z}
+use Rattle.std.proofs.Common.{◌≡◌, ℕ, ◌^◌, ◌<◌, List, [], length, ℤ, Ok, Err, Result, sym, refl, ap, ◌∙◌, subst, arith, SFits, to_z, of_z}
 use mir.Facts.{Fits-of_z, sfits_to_z}
 use mir.Syntax.{Width}
 use mir.Val.{bits}
 use Rattle.std.proofs.lemmas.List.{take_all, append-nil}
 use Rattle.std.proofs.lemmas.Int.{to_z-of_z, of_z-to_z}
-use Rattle.std.proofs.lemmas.Bool.{cond-false, le-ltb, ltb-false}
+use Rattle.std.proofs.lemmas.Bool.{cond-false, le-ltb}
 use Rattle.fault.specs.declared.Fault.{Fault}
-use Rattle.fault.specs.declared.Rule.TheVariants.{Trailing}
-use Rattle.fault.specs.Faults.{fault}
 use Rattle.wire.specs.Bytes.{Octets}
-use Rattle.wire.specs.Words.{then, be, word, uint_at, signed}
+use Rattle.wire.specs.Words.{then, ended, be, word, uint_at, signed}
 use Rattle.wire.proofs.Reading.{uint_fits, word_lt}
-use Rattle.wire.proofs.Taking.{then_ok, uint_ok}
+use Rattle.wire.proofs.Taking.{then_ok, uint_ok, ended_ok}
 use Rattle.wire.proofs.Wording.{length_be, word_back, be_word}
-use Rattle.scalar.specs.Words.{only, Exactly}
+use Rattle.scalar.specs.Words.{Exactly}
 
 signed_ok : (w : Width) (r : Result ℕ Fault) (z : ℤ) → signed w r ≡ Ok z → (m : ℕ) × (r ≡ Ok m) × (to_z w m ≡ z)
 signed_ok w (Ok m) z e = (m, refl, cc)
 signed_ok w (Err f) z e = let z : ◌≡◌ {A = ℕ} 0 1 = cc in absurd (omega arith)
 
-only_ok : (n : ℕ) (bs : List ℕ) (y z : ℤ) (b : Bool) → ltb n (length bs) ≡ b → cond b (Err (fault Trailing n)) (Ok y) ≡ Ok z → (length bs ≤ n) × (y ≡ z)
-only_ok n bs y z true t e = let z : ◌≡◌ {A = ℕ} 0 1 = cc in absurd (omega arith)
-only_ok n bs y z false t e = (ltb-false n (length bs) t, cc)
-
 -- n bytes, which are just the bits of the width
 module _ (w : Width) (n : ℕ) (bytes : 256 ^ n ≡ 2 ^ bits w) (bs : List ℕ) where
   abbrev recv : List ℕ → Result ℤ Fault
-  recv l = then (signed w (uint_at n l 0)) (only n l)
+  recv l = then (signed w (uint_at n l 0)) (ended l n)
 
   told : Octets bs → (z : ℤ) → recv bs ≡ Ok z → SFits w z × (bs ≡ be n (of_z w z))
   told small z e =
-      let t = then_ok (signed w (uint_at n bs 0)) (only n bs) z e in
+      let t = then_ok (signed w (uint_at n bs 0)) (ended bs n) z e in
       let s = signed_ok w (uint_at n bs 0) t.0 t.1 in
       let u = uint_ok n bs 0 s.0 s.1 in
-      let o = only_ok n bs t.0 z (ltb n (length bs)) refl t.2 in
+      let o = ended_ok bs n t.0 z t.2 in
       let m = word n bs 0 in
       let low : m < 2 ^ bits w = subst (λ k. m < k) bytes (word_lt n bs 0 small u.0) in
       let is : to_z w m ≡ z = ap (to_z w) u.1 ∙ s.2 ∙ o.1 in
@@ -47,8 +41,8 @@ module _ (w : Width) (n : ℕ) (bytes : 256 ^ n ≡ 2 ^ bits w) (bs : List ℕ) 
       let long : length bs ≡ n = ap length is ∙ length_be n m in
       let low : m < 256 ^ n = subst (λ k. m < k) (sym bytes) (Fits-of_z fits).fits in
       let read : word n bs 0 ≡ m = ap (λ l. word n l 0) (is ∙ sym (append-nil (be n m))) ∙ word_back n [] [] m 0 refl low in
-      ap (λ r. then (signed w r) (only n bs)) (uint_fits n bs 0 (omega arith) ∙ ap Ok read)
-      ∙ ap (only n bs) (to_z-of_z w z fits)
+      ap (λ r. then (signed w r) (ended bs n)) (uint_fits n bs 0 (omega arith) ∙ ap Ok read)
+      ∙ ap (ended bs n) (to_z-of_z w z fits)
       ∙ cond-false _ _ _ (le-ltb n (length bs) (omega arith))
 
   pub exactly : Octets bs → Exactly w n recv bs

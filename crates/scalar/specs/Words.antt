@@ -1,21 +1,15 @@
 -- Words as bare payloads (int4recv, int8recv).
-use Rattle.std.specs.Prelude.{◌≡◌, ℕ, cond, ◌↔◌, List, length, ℤ, Ok, Err, Result, FitsSigned, nat_lt}
+use Rattle.std.specs.Prelude.{◌≡◌, ℕ, ◌↔◌, List, ℤ, Ok, Result, FitsSigned}
 use Rattle.std.specs.Int.{Width, w32, w64}
 use Rattle.std.proofs.Common.{of_z}
 use Rattle.fault.specs.declared.Fault.{Fault}
-use Rattle.fault.specs.declared.Rule.TheVariants.{Trailing}
-use Rattle.fault.specs.Faults.{fault}
-use Rattle.wire.specs.Words.{then, be, i32_at, i64_at}
-
--- nothing may stand behind the n bytes of a value
-abbrev pub only : {X : Type 0} → ℕ → List ℕ → X → Result X Fault
-only n bs x = cond (nat_lt n (length bs)) (Err (fault Trailing n)) (Ok x)
+use Rattle.wire.specs.Words.{then, ended, be, i32_at, i64_at}
 
 abbrev pub int4_recv : List ℕ → Result ℤ Fault
-int4_recv bs = then (i32_at bs 0) (only 4 bs)
+int4_recv bs = then (i32_at bs 0) (ended bs 4)
 
 abbrev pub int8_recv : List ℕ → Result ℤ Fault
-int8_recv bs = then (i64_at bs 0) (only 8 bs)
+int8_recv bs = then (i64_at bs 0) (ended bs 8)
 
 -- bytes are read as a number exactly when they are the number in two's complement, the most significant byte first
 abbrev pub Exactly : Width → ℕ → (List ℕ → Result ℤ Fault) → List ℕ → Type 0

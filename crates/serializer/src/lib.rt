@@ -38,11 +38,11 @@ mod tests {
 
     #[test]
     fn doubles(rt: HostRuntime) {
-        let doubles = [DoubleWord::new(1.5), DoubleWord::new(f64::NAN)];
+        let doubles = [DoubleWord::from(1.5), DoubleWord::from(f64::NAN)];
         let list = ElementList::new(&doubles);
         assert!(rt; writes(&list, 0, b"\0\0\0\x08\x3F\xF8\0\0\0\0\0\0"));
         assert!(rt; writes(&list, 1, b"\0\0\0\x08\x7F\xF8\0\0\0\0\0\0"));
-        let points = [PointWords::new(Point::new(1.0, -0.0))];
+        let points = [PointWords::from(Point::new(1.0, -0.0))];
         assert!(rt;
             writes(
                 &ElementList::new(&points),

@@ -6,7 +6,7 @@ ghost use Rattle.serializer.specs.Lists.{item_at};
 
 use crate::serializer::Serializer;
 use fault::{Fault, Rule};
-use wire::write::{put_i32, put_u32};
+use wire::word::Word;
 
 // Writes item k behind its length word, -1 for NULL, to the start of the part, and answers the
 // number of bytes. The part behind the length word is lent on to the serializer.
@@ -19,12 +19,12 @@ pub fn write_nullable<S: Serializer>(
     ensures after { part.new ≡ laid (room_for (length part.old) (nullable_item (item_at (S.Serializer.items serializer.now) k))) part.old }
 {
     match serializer.size(k)? {
-        None => put_i32(part, 0, -1),
+        None => i32::put(part, 0, -1),
         Some(length) => {
             if part.len() < 4 + length {
                 return Err(Fault::new(Rule::NoRoom, 0));
             }
-            put_u32(part, 0, length as u32)?;
+            u32::put(part, 0, length as u32)?;
             serializer.write(k, &mut part[4..])?;
             Ok(4 + length)
         }

@@ -13,7 +13,7 @@ use fault::{Fault, Rule};
 use serializer::nullable::write_nullable;
 use serializer::serializer::Serializer;
 use wire::oid::Oid;
-use wire::write::{put_i32, put_u32};
+use wire::word::Word;
 
 impl Sheet {
     // A blank sheet: four zero bytes at the start of the buffer.
@@ -21,7 +21,7 @@ impl Sheet {
         ensures answer { result ≡ told_blank (length buffer.old) }
         ensures after { buffer.new ≡ laid (room_for (length buffer.old) (Ok blank_bytes)) buffer.old }
     {
-        let fill = put_i32(buffer, 0, 0)?;
+        let fill = i32::put(buffer, 0, 0)?;
         Ok(Sheet { fill, columns: 0 })
     }
 
@@ -68,7 +68,7 @@ impl Sheet {
         }
         let columns = self.columns + 1;
         write_column(content, buffer, self.fill, oid)?;
-        put_i32(buffer, 0, columns as i32)?;
+        i32::put(buffer, 0, columns as i32)?;
         self.fill += bytes;
         self.columns = columns;
         Ok(())
@@ -87,7 +87,7 @@ fn write_column<S: Serializer>(
     ensures answer { result ≡ Ok (at + 4 + length (bytes (nullable_item (item_at (S.Serializer.items content.now) 0)))) }
     ensures after { buffer.new ≡ put at (be 4 oid ++ bytes (nullable_item (item_at (S.Serializer.items content.now) 0))) buffer.old }
 {
-    let at = put_u32(buffer, at, oid)?;
+    let at = u32::put(buffer, at, oid)?;
     let size = write_nullable(content, 0, &mut buffer[at..])?;
     Ok(at + size)
 }

@@ -5,7 +5,8 @@ ghost use Rattle.varbit.specs.Laws.{WrittenBack, Distinct};
 ghost use Rattle.varbit.specs.Layout.{varbit_encoding};
 
 use fault::{Fault, Rule};
-use wire::write::{from_usize, put_bytes, put_i32};
+use wire::word::Word;
+use wire::write::{from_usize, put_bytes};
 
 // Writes a bit count and bytes to the start of the part, and answers the number of bytes. The two
 // are not compared.
@@ -27,6 +28,6 @@ fn encode(len: usize, bytes: &[u8], part: &mut [u8]) -> Result<usize, Fault>
     if part.len() < 4 || part.len() - 4 < bytes.len() {
         return Err(Fault::new(Rule::NoRoom, 0));
     }
-    let at = put_i32(part, 0, count)?;
+    let at = i32::put(part, 0, count)?;
     put_bytes(part, at, bytes)
 }

@@ -1,10 +1,10 @@
 -- What an answer tells of the bytes that it was read from.
 use Rattle.std.proofs.Common.{◌≡◌, ℕ, ◌+◌, ◌^◌, ◌<◌, ◌≤◌, Bool, true, false, cond, ltb, leb, List, length, ℤ, pos, negsuc, Ok, Err, Result, sym, refl, ap, ◌∙◌, arith, w32, to_z}
-use Rattle.std.proofs.lemmas.Bool.{leb-true, ltb-true}
+use Rattle.std.proofs.lemmas.Bool.{leb-true, ltb-true, ltb-false}
 use Rattle.fault.specs.declared.Fault.{Fault}
-use Rattle.fault.specs.declared.Rule.TheVariants.{Truncated}
+use Rattle.fault.specs.declared.Rule.TheVariants.{Truncated, Trailing}
 use Rattle.fault.specs.Faults.{fault}
-use Rattle.wire.specs.Words.{then, word, uint_at, signed, i32_at, natural, count_at}
+use Rattle.wire.specs.Words.{then, ended, word, uint_at, signed, i32_at, natural, count_at}
 
 -- a value that came through
 pub then_ok : {X Y : Type 0} (r : Result X Fault) (on : X → Result Y Fault) (y : Y) → then r on ≡ Ok y → (x : X) × (r ≡ Ok x) × (on x ≡ Ok y)
@@ -15,6 +15,14 @@ then_ok (Err f) on y e = let z : ◌≡◌ {A = ℕ} 0 1 = cc in absurd (omega a
 pub passed : {X : Type 0} (b : Bool) (r : Result X Fault) (f : Fault) (x : X) → Ok x ≡ cond b r (Err f) → (b ≡ true) × (Ok x ≡ r)
 passed true r f x e = (refl, e)
 passed false r f x e = let z : ◌≡◌ {A = ℕ} 0 1 = cc in absurd (omega arith)
+
+-- no byte remained
+ended_by : {X : Type 0} (bs : List ℕ) (at : ℕ) (x y : X) (b : Bool) → ltb at (length bs) ≡ b → cond b (Err (fault Trailing at)) (Ok x) ≡ Ok y → (length bs ≤ at) × (x ≡ y)
+ended_by bs at x y true t e = let z : ◌≡◌ {A = ℕ} 0 1 = cc in absurd (omega arith)
+ended_by bs at x y false t e = (ltb-false at (length bs) t, cc)
+
+pub ended_ok : {X : Type 0} (bs : List ℕ) (at : ℕ) (x y : X) → ended bs at x ≡ Ok y → (length bs ≤ at) × (x ≡ y)
+ended_ok bs at x y e = ended_by bs at x y (ltb at (length bs)) refl e
 
 -- a word that was read
 pub uint_ok : (w : ℕ) (bs : List ℕ) (at n : ℕ) → uint_at w bs at ≡ Ok n → (at + w ≤ length bs) × (word w bs at ≡ n)

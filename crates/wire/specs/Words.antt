@@ -1,18 +1,22 @@
 -- Big-endian words, and what is read at a place.
-use Rattle.std.specs.Prelude.{ℕ, zero, suc, ◌+◌, ◌/◌, ◌%◌, cond, List, [], ◌∷◌, ◌++◌, length, take, drop, ℤ, pos, negsuc, Some, None, Ok, Err, Option, Result, nat_le}
+use Rattle.std.specs.Prelude.{ℕ, zero, suc, ◌+◌, ◌/◌, ◌%◌, cond, List, [], ◌∷◌, ◌++◌, length, take, drop, ℤ, pos, negsuc, Some, None, Ok, Err, Option, Result, nat_le, nat_lt}
 use Rattle.std.specs.Int.{Width, w8, w32, w64}
 use Rattle.std.proofs.Common.{to_z, of_z}
 use Rattle.std.specs.Borrow.{Bor}
 use Rattle.std.specs.Option.{option_map}
 use Rattle.std.specs.Int.Digits.{number_from_digits}
 use Rattle.fault.specs.declared.Fault.{Fault}
-use Rattle.fault.specs.declared.Rule.TheVariants.{Truncated, Overrun, Negative}
+use Rattle.fault.specs.declared.Rule.TheVariants.{Truncated, Overrun, Trailing, Negative}
 use Rattle.fault.specs.Faults.{fault}
 
 -- a fault is passed up, and a value on
 abbrev pub then : {X Y : Type 0} → Result X Fault → (X → Result Y Fault) → Result Y Fault
 then (Ok x) on = on x
 then (Err f) on = Err f
+
+-- a value that ends at a place: no byte may remain
+abbrev pub ended : {X : Type 0} → List ℕ → ℕ → X → Result X Fault
+ended bs at x = cond (nat_lt at (length bs)) (Err (fault Trailing at)) (Ok x)
 
 -- n in w bytes, the most significant first
 abbrev pub be : ℕ → ℕ → List ℕ
@@ -22,6 +26,10 @@ be (suc w) n = be w (n / 256) ++ (n % 256) ∷ []
 -- the number that the w bytes at a place make, the most significant first
 abbrev pub word : ℕ → List ℕ → ℕ → ℕ
 word w bs at = number_from_digits 256 (take w (drop at bs))
+
+-- the w bytes at a place, or a fault there
+abbrev pub octets_at : ℕ → List ℕ → ℕ → Result (List ℕ) Fault
+octets_at w bs at = cond (nat_le (at + w) (length bs)) (Ok (take w (drop at bs))) (Err (fault Truncated at))
 
 -- a field of w bytes: all of them, or a fault at the field's start
 abbrev pub uint_at : ℕ → List ℕ → ℕ → Result ℕ Fault

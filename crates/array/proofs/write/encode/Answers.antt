@@ -48,9 +48,9 @@ returns g c =
     let nulls = c.from.ensures ∙ flag_is _ ∙ ap (λ y. cond y.nulls 1 0) x.1 in
     let fits : SFits w32 c.in_ok-count.count = search rules in
     let same : to_z w32 (of_z w32 c.in_ok-count.count) ≡ pos (length ds) = to_z-of_z w32 c.in_ok-count.count fits ∙ count.1 in
-    let first = c.put_i32.ensures.after ∙ ap (λ z. laid_at 0 (int z) part) same in
+    let first = c.put.ensures.after ∙ ap (λ z. laid_at 0 (int z) part) same in
     let room : 12 ≤ length part = omega arith in
-    let bytes = laid_out ds c.args.oid c.from.result (values is) part room nulls first c.put_u32.ensures.after c.put_u32-2.ensures.after c.put_dimensions.ensures.after c.write_elements.ensures.after in
+    let bytes = laid_out ds c.args.oid c.from.result (values is) part room nulls first c.put-2.ensures.after c.put-3.ensures.after c.put_dimensions.ensures.after c.write_elements.ensures.after in
     let bound : length part < 2 ^ 64 = search rules in
     let e = roomy (length part) (array_layout ds c.args.oid (values is)) (encoding_is ds c.args.oid is x.0 few) (omega arith) in
     record { answer = c.write_elements.ensures.answer ∙ ap Ok (sym long) ∙ sym (ap told e); after = bytes ∙ sym (ap (λ y. laid y part) e) }

@@ -15,12 +15,12 @@ returns c =
     let low_fits : SFits w32 c.args.dim.lower_bound = search rules in
     let len_back = to_z-of_z w32 c.args.dim.len len-fits in
     let low-back = to_z-of_z w32 c.args.dim.lower_bound low_fits in
-    let told-first = c.put_i32.ensures.answer ∙ ap (λ z. told_at at (int z) part) len_back ∙ told_fits at len part (omega arith) in
-    let first = c.put_i32.ensures.after ∙ ap (λ z. laid_at at (int z) part) len_back ∙ laid_fits at len part (omega arith) in
+    let told-first = c.put.ensures.answer ∙ ap (λ z. told_at at (int z) part) len_back ∙ told_fits at len part (omega arith) in
+    let first = c.put.ensures.after ∙ ap (λ z. laid_at at (int z) part) len_back ∙ laid_fits at len part (omega arith) in
     let place : c.in_ok-at.at ≡ at + 4 = let was = c.in_ok-at.was in cc in
-    let told = c.put_i32-2.ensures.answer ∙ ap (λ z. told_at c.in_ok-at.at (int z) c.put_i32.new.part) low-back ∙ told_on at c.in_ok-at.at len low part _ (omega arith) place first in
+    let told = c.put-2.ensures.answer ∙ ap (λ z. told_at c.in_ok-at.at (int z) c.put.new.part) low-back ∙ told_on at c.in_ok-at.at len low part _ (omega arith) place first in
     let behind : c.in_ok-at.at + 4 ≡ at + 8 = omega arith in
     record {
       answer = told ∙ ap Ok behind;
-      after = c.put_i32-2.ensures.after ∙ ap (λ z. laid_at c.in_ok-at.at (int z) c.put_i32.new.part) low-back ∙ laid_on at c.in_ok-at.at len low part _ (omega arith) place first;
+      after = c.put-2.ensures.after ∙ ap (λ z. laid_at c.in_ok-at.at (int z) c.put.new.part) low-back ∙ laid_on at c.in_ok-at.at len low part _ (omega arith) place first;
     }

@@ -3,7 +3,8 @@ use Rattle.std.proofs.lemmas.Slice.{pushed}
 use Rattle.answers.specs.Parts.{texts_of, parts_text}
 use Rattle.answers.specs.Plain.{value_text, flag_text}
 use Rattle.array.specs.Recv.{read_dimension}
-use Rattle.arrayview.specs.Views.{opened, dimensions_state, values_state}
+use Rattle.arrayview.specs.Views.{opened}
+use Rattle.wire.specs.Cursors.{state}
 use Rattle.wire.specs.Cursor.{read_nullable}
 use Rattle.arrayline.specs.Arrays.{dimension_text}
 use Rattle.arrayline.proofs.Arrays.{array_parts}
@@ -13,8 +14,8 @@ pub returns : goal.returns
 returns c =
     let nulls = c.has_nulls.result in
     let oid = c.from.result in
-    let ds = dimensions_state c.dimensions.result in
-    let vs = values_state c.values.result in
+    let ds = state c.dimensions.result in
+    let vs = state c.values.result in
     let flag = c.in_ok-push_flag.ensures ∙ ap (λ l. l ++ flag_text nulls) c.in_ok-out.ensures.items in
     let named = pushed (codes " oid=") flag c.in_ok-extend_from_slice.was c.extend_from_slice.ensures.items in
     let typed = c.in_ok-push_decimal.ensures ∙ ap (λ l. l ++ decimal oid) named in

@@ -23,8 +23,8 @@ returns c =
     let z = c.in_ok-from_usize.field-0 in
     let fits : SFits w32 z = search rules in
     let same : to_z w32 (of_z w32 z) ≡ pos (length text) = to_z-of_z w32 z fits ∙ (count_fits (length text) 0 z c.in_ok-from_usize.ensures).1 in
-    let first = c.put_i32-2.ensures.after ∙ ap (λ z. laid_at at (int z) part) same ∙ laid_fits at word part (omega arith) in
-    let told = c.put_i32-2.ensures.answer ∙ ap (λ z. told_at at (int z) part) same ∙ told_fits at word part (omega arith) in
+    let first = c.put-2.ensures.after ∙ ap (λ z. laid_at at (int z) part) same ∙ laid_fits at word part (omega arith) in
+    let told = c.put-2.ensures.answer ∙ ap (λ z. told_at at (int z) part) same ∙ told_fits at word part (omega arith) in
     let place : to ≡ at + 4 = let was = c.in_ok-at.was in cc in
     let end : to + length text ≡ at + length (word ++ text) = omega arith in
     record {

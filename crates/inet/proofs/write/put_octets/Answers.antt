@@ -12,9 +12,9 @@ returns-in_ok-at-in-V6 c =
     let part = c.args.part.now in
     let room : 20 ≤ length part = subst (λ a. 4 + length (octets a) ≤ length part) c.in-V6.is c.requires in
     let at : c.in_ok-at-in-V6.at ≡ 12 = let t = told_fits 4 high part (omega arith) in let u = c.in_ok-at-in-V6.ensures.answer in cc in
-    let first = c.put_u64.ensures.after ∙ laid_fits 4 high part (omega arith) in
-    let told = c.put_u64-in-V6.ensures.answer ∙ told_on 4 c.in_ok-at-in-V6.at high low part _ (omega arith) at first in
+    let first = c.put-in-V6.ensures.after ∙ laid_fits 4 high part (omega arith) in
+    let told = c.put-in-V6-2.ensures.answer ∙ told_on 4 c.in_ok-at-in-V6.at high low part _ (omega arith) at first in
     record {
       answer = told ∙ ap (λ n. Ok (n + 8)) at ∙ ap (λ a. Ok (4 + length (octets a))) (sym c.in-V6.is);
-      after = c.put_u64-in-V6.ensures.after ∙ laid_on 4 c.in_ok-at-in-V6.at high low part _ (omega arith) at first ∙ ap (λ a. put 4 (octets a) part) (sym c.in-V6.is);
+      after = c.put-in-V6-2.ensures.after ∙ laid_on 4 c.in_ok-at-in-V6.at high low part _ (omega arith) at first ∙ ap (λ a. put 4 (octets a) part) (sym c.in-V6.is);
     }

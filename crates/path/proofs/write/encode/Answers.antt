@@ -5,7 +5,9 @@ use Rattle.wire.specs.Words.{be, int}
 use Rattle.wire.proofs.Counts.{count_fits}
 use Rattle.wire.proofs.Writing.{roomy, no_room}
 use Rattle.path.specs.Layout.{path_layout}
-use Rattle.path.proofs.Writes.{length_points, encoding_is, laid_out}
+use Rattle.path.proofs.Writes.{encoding_is, points_told, laid_out}
+use Rattle.geometry.specs.Layout.{points_layout}
+use Rattle.geometry.proofs.Points.{length_points}
 use Rattle.path.proofs.write.encode.Goals as goal
 
 pub returns-then-part-points : goal.returns-then-part-points
@@ -26,9 +28,10 @@ returns c =
     let count = count_fits (length ps) 0 _ c.in_ok-count.ensures in
     let fits : SFits w32 c.in_ok-count.count = search rules in
     let same : to_z w32 (of_z w32 c.in_ok-count.count) ≡ pos (length ps) = to_z-of_z w32 c.in_ok-count.count fits ∙ count.1 in
-    let first = c.put_u8.ensures.after ∙ ap (λ n. laid_at 0 (be 1 n) part) c.from.ensures in
-    let second = c.put_i32.ensures.after ∙ ap (λ z. laid_at 1 (int z) c.put_u8.new.part) same in
-    let long : 5 + 16 * length ps ≡ length (path_layout closed ps) = omega (arith, length_points ps) in
+    let first = c.put.ensures.after ∙ ap (λ n. laid_at 0 (be 1 n) part) c.from.ensures in
+    let second = c.put-2.ensures.after ∙ ap (λ z. laid_at 1 (int z) c.put.new.part) same in
+    let points = length_points ps in
+    let long : 5 + length (points_layout ps) ≡ length (path_layout closed ps) = omega arith in
     let bytes = laid_out closed ps part (omega arith) first second c.put_points.ensures.after in
     let e = roomy (length part) (path_layout closed ps) (encoding_is closed ps count.0) (omega arith) in
-    record { answer = c.put_points.ensures.answer ∙ ap Ok long ∙ sym (ap told e); after = bytes ∙ sym (ap (λ y. laid y part) e) }
+    record { answer = c.put_points.ensures.answer ∙ points_told closed ps part (omega arith) first second ∙ ap Ok long ∙ sym (ap told e); after = bytes ∙ sym (ap (λ y. laid y part) e) }

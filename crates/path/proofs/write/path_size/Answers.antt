@@ -1,7 +1,8 @@
 use Rattle.std.proofs.Common.{length, Ok, sym, ap, ◌∙◌, arith}
 use Rattle.wire.specs.Encoding.{told}
 use Rattle.wire.proofs.Counts.{count_fits}
-use Rattle.path.proofs.Writes.{length_points, encoding_is}
+use Rattle.geometry.proofs.Points.{length_points}
+use Rattle.path.proofs.Writes.{encoding_is}
 use Rattle.path.proofs.write.path_size.Goals as goal
 
 pub returns : goal.returns

@@ -4,14 +4,14 @@ use Rattle.std.proofs.lemmas.Slice.{pushed}
 use Rattle.answers.specs.Parts.{texts_of, parts_text}
 use Rattle.answers.specs.Plain.{flag_text}
 use Rattle.path.specs.Recv.{read_point}
-use Rattle.path.specs.Views.{points_state}
+use Rattle.wire.specs.Cursors.{state}
 use Rattle.shapeline.specs.Words.{point_text}
 use Rattle.pathline.proofs.requests.print_path.Goals as goal
 
 pub returns : goal.returns
 returns c =
     let flag = flag_text c.closed.result in
-    let list = parts_text (texts_of (point_text 58) read_point) (points_state c.points.result) in
+    let list = parts_text (texts_of (point_text 58) read_point) (state c.points.result) in
     let closed = c.in_ok-push_flag.ensures ∙ ap (λ l. l ++ flag) c.in_ok-out.ensures.items in
     let space = pushed (32 ∷ []) closed c.in_ok-push.was c.push.ensures.items in
     c.in_ok-push_parts.ensures

@@ -27,5 +27,5 @@ returns g c =
     let place : c.in_ok-at.at ≡ 1 + length (bytes (bound_encoding is lower)) = let a = c.in_ok-at.ensures.answer in cc in
     record {
       answer = c.write_bound-2.ensures.answer ∙ range_told is lower upper _ _ l u part _ room place;
-      after = range_laid is lower upper _ _ l u part _ _ room c.tag.ensures place c.put_u8.ensures.after c.write_bound.ensures.after c.write_bound-2.ensures.after;
+      after = range_laid is lower upper _ _ l u part _ _ room c.tag.ensures place c.put.ensures.after c.write_bound.ensures.after c.write_bound-2.ensures.after;
     }

@@ -15,6 +15,6 @@ returns g c =
     let place : c.in_ok-at.at ≡ at + 4 = cc in
     let head = c.in_ok-at.ensures.after in
     record {
-      answer = ap Ok (column_told i at c.in_ok-at.at oid b c.put_u32.new.part c.write_nullable.new.part c.requires.sound c.requires.room head place c.in_ok-size.size c.in_ok-size.ensures.answer);
-      after = column_laid i at c.in_ok-at.at oid b c.put_u32.new.part c.write_nullable.new.part c.requires.sound c.requires.room head place c.in_ok-size.ensures.after;
+      answer = ap Ok (column_told i at c.in_ok-at.at oid b c.put.new.part c.write_nullable.new.part c.requires.sound c.requires.room head place c.in_ok-size.size c.in_ok-size.ensures.answer);
+      after = column_laid i at c.in_ok-at.at oid b c.put.new.part c.write_nullable.new.part c.requires.sound c.requires.room head place c.in_ok-size.ensures.after;
     }

@@ -11,7 +11,7 @@ returns c =
     let y = be 8 c.args.self.now.y in
     let part = c.args.part.now in
     let room : 16 ≤ length part = c.if-part-lt16.false in
-    let first = c.put_u64.ensures.after ∙ laid_fits 0 x part (omega arith) in
-    let both = c.put_u64-2.ensures.after ∙ laid_on 0 8 x y part _ room refl first ∙ put_start (x ++ y) part in
+    let first = c.put.ensures.after ∙ laid_fits 0 x part (omega arith) in
+    let both = c.put-2.ensures.after ∙ laid_on 0 8 x y part _ room refl first ∙ put_start (x ++ y) part in
     let is = item_fits (length part) (x ++ y) refl room in
     record { answer = sym (ap null_of is); after = both ∙ sym (ap (λ i. filled i part) is) }
