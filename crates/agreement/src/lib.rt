@@ -3,11 +3,11 @@
 
 ghost use Rattle.std.specs.Prelude.{◌≡◌, length, Decides};
 ghost use Rattle.record.specs.Recv.{record_recv};
-ghost use Rattle.record.specs.Views.{told_columns};
 ghost use Rattle.sheet.specs.Filing.{sheet_bytes};
 ghost use Rattle.pile.specs.Match.{judged};
 ghost use Rattle.serializer.specs.Lists.{item_at};
 ghost use Rattle.wire.specs.Items.{fitting, filled};
+ghost use Rattle.wire.specs.Cursors.{told_opened};
 ghost use Rattle.agreement.specs.Agreed.{BookKept, EqualBytes, OneResult};
 
 use fault::Fault;
@@ -21,7 +21,7 @@ use validator::validator::Validator;
 // Opens a sheet: a cursor over its columns. Read to the end, and each column by the view of its kind,
 // it gives exactly what was filed.
 pub fn read<'a>(sheet: &Sheet, buffer: &'a [u8]) -> Result<RecordColumns<'a>, Fault>
-    ensures answer { told_columns result ≡ record_recv (sheet_bytes sheet.now buffer.now) }
+    ensures answer { told_opened result ≡ record_recv (sheet_bytes sheet.now buffer.now) }
     ensures book { BookKept sheet.now buffer.now }
 {
     record_from_sql(sheet.bytes(buffer))

@@ -9,17 +9,17 @@ use Rattle.fault.specs.declared.Rule.TheVariants.{Truncated, Trailing, Overrun, 
 use Rattle.fault.specs.Faults.{fault}
 use Rattle.wire.specs.Cursor.{before, sized}
 use Rattle.wire.specs.Items.{nullable}
-use Rattle.wire.specs.Words.{Value, then, word, signed, u8_at, i32_at, u64_at, i64_at, count_at, value_of, value_at}
+use Rattle.wire.specs.Words.{Value, then, ended, word, signed, u8_at, i32_at, u64_at, i64_at, count_at, value_of, value_at}
 use Rattle.wire.proofs.Taking.{then_ok, uint_ok, count_ok}
 use Rattle.double.specs.declared.point.Point.{Point}
-use Rattle.geometry.specs.Recv.{point_at, whole, point_recv, box_recv}
+use Rattle.geometry.specs.Recv.{point_at, point_recv, box_recv}
 use Rattle.hstore.specs.Recv.{placed, text_at, key_in, key_at, value_in, entry_value_at, read_entry, hstore_recv}
 use Rattle.hstore.proofs.Forms.{entry_ok}
 use Rattle.inet.specs.declared.address.IpAddr.{IpAddr}
 use Rattle.inet.specs.declared.address.IpAddr.TheVariants.{V4, V6}
 use Rattle.inet.specs.Recv.{mask_of, masked, inet_recv}
 use Rattle.path.specs.Recv.{Opened, opened_with, path_recv, read_point, at_points}
-use Rattle.scalar.specs.Words.{only, int4_recv, int8_recv}
+use Rattle.scalar.specs.Words.{int4_recv, int8_recv}
 use Rattle.text.specs.Recv.{text_end, text_recv}
 use Rattle.text.proofs.Ends.{end_within}
 use Rattle.validator.specs.Places.{Lies, then_lies, uint_lies, i32_lies, count_lies, Placed, to_end_lies, sized_ok, value_fits}
@@ -41,7 +41,7 @@ accepted_within : {X : Type 0} (bs : List ℕ) (r : Result X Fault) → Lies (le
 accepted_within bs r h = opened_within bs r (λ _. Ok tt) h (λ x e. tt)
 
 -- what stands behind a value begins within the bytes
-rest_lies : {X : Type 0} (bs : List ℕ) (n : ℕ) (x : X) → Lies (length bs) (only n bs x)
+rest_lies : {X : Type 0} (bs : List ℕ) (n : ℕ) (x : X) → Lies (length bs) (ended bs n x)
 rest_lies bs n x = cond_both (nat_lt n (length bs)) (Err (fault Trailing n)) (Ok x) (Lies (length bs)) (λ t. omega (arith, ltb-true n (length bs) t)) (λ _. tt)
 
 -- a test, and a fault where it fails
@@ -55,10 +55,10 @@ i64_lies bs (Ok n) h = tt
 i64_lies bs (Err f) h = h
 
 pub int4_within : (bs : List ℕ) → Within bs (int4_verdict bs)
-int4_within bs = accepted_within bs (int4_recv bs) (then_lies (length bs) (i32_at bs 0) (only 4 bs) (i32_lies bs 0 (omega arith)) (λ z e. rest_lies bs 4 z))
+int4_within bs = accepted_within bs (int4_recv bs) (then_lies (length bs) (i32_at bs 0) (ended bs 4) (i32_lies bs 0 (omega arith)) (λ z e. rest_lies bs 4 z))
 
 pub int8_within : (bs : List ℕ) → Within bs (int8_verdict bs)
-int8_within bs = accepted_within bs (int8_recv bs) (then_lies (length bs) (i64_at bs 0) (only 8 bs) (i64_lies bs (u64_at bs 0) (uint_lies 8 bs 0 (omega arith))) (λ z e. rest_lies bs 8 z))
+int8_within bs = accepted_within bs (int8_recv bs) (then_lies (length bs) (i64_at bs 0) (ended bs 8) (i64_lies bs (u64_at bs 0) (uint_lies 8 bs 0 (omega arith))) (λ z e. rest_lies bs 8 z))
 
 -- texts: the bytes themselves, or a fault within them
 text_both : (bs : List ℕ) (P : Result (List ℕ) Fault → Type 0) → P (Ok bs) → ((k : ℕ) → k ≤ length bs → P (Err (fault NotText k))) → P (text_recv bs)
@@ -81,7 +81,7 @@ point_there bs at p e =
     omega arith
 
 pub point_within : (bs : List ℕ) → Within bs (point_verdict bs)
-point_within bs = accepted_within bs (point_recv bs) (then_lies (length bs) (point_at bs 0) (whole bs 16) (point_lies bs 0 (omega arith)) (λ p e. rest_lies bs 16 p))
+point_within bs = accepted_within bs (point_recv bs) (then_lies (length bs) (point_at bs 0) (ended bs 16) (point_lies bs 0 (omega arith)) (λ p e. rest_lies bs 16 p))
 
 pub box_within : (bs : List ℕ) → Within bs (box_verdict bs)
 box_within bs =

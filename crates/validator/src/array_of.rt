@@ -1,10 +1,10 @@
 //! The array layer.
 ghost use Rattle.std.specs.Prelude.{◌≡◌, ◌+◌, ◌^◌, ◌<◌, length};
-ghost use Rattle.arrayview.specs.Views.{values_state};
 ghost use Rattle.wire.specs.Cursor.{read_nullable};
 ghost use Rattle.wire.specs.Items.{nullable};
 ghost use Rattle.std.specs.Option.{option_map};
 ghost use Rattle.validator.specs.Verdicts.{handed, to_end, array_verdict};
+ghost use Rattle.wire.specs.Cursors.{state};
 ghost use Rattle.validator.specs.Places.{array_within};
 
 use crate::validator::Validator;
@@ -30,7 +30,7 @@ impl<V: Validator> Validator for ArrayOf<V> {
 
 // Takes every step of the cursor, and hands each payload down before the next step.
 fn read_to_end<V: Validator>(below: &V, values: ArrayValues<'_>) -> Result<(), Fault>
-    ensures { result ≡ to_end read_nullable (handed (V.Validator.verdict below.now)) (values_state values.entry) }
+    ensures { result ≡ to_end read_nullable (handed (V.Validator.verdict below.now)) (state values.entry) }
 {
     let mut values = values;
     let mut at = values.place();
@@ -54,8 +54,5 @@ pub(crate) fn hand_down<V: Validator>(
     let Some(payload) = value else {
         return Ok(());
     };
-    match below.validate(payload) {
-        Ok(()) => Ok(()),
-        Err(fault) => Err(fault.up(at + 4)),
-    }
+    below.validate(payload).map_err(|fault| fault.up(at + 4))
 }
