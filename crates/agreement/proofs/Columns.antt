@@ -13,7 +13,9 @@ use Rattle.array.specs.Laws.{Sound, times, product, element_count}
 use Rattle.array.proofs.Written as Array-written
 use Rattle.content.specs.Calls.{Content, null, column, array, range, empty_range, hstore, varbit, point, box, path, inet, held}
 use Rattle.content.specs.Held.{Held, no_value, an_item, an_array, a_range, the_empty_range, an_hstore, a_varbit, a_point, a_box, a_path, an_inet, value_of}
-use Rattle.content.specs.Rules.{few, from_serializer, factor, product_of, dimensions_fit, array_rule, range_bounds, hstore_entries, bytes_fit, varbit_rule, inet_rule}
+use Rattle.rows.specs.Windows.{above}
+use Rattle.rows.proofs.Windowing.{above_ok}
+use Rattle.content.specs.Rules.{few, factor, product_of, dimensions_fit, array_rule, range_bounds, hstore_entries, bytes_fit, varbit_rule, inet_rule}
 use Rattle.double.specs.declared.point.Box.{Box}
 use Rattle.double.specs.Doubles.{double_word, word_double}
 use Rattle.double.specs.Points as points
@@ -87,15 +89,11 @@ array_reads oid ds is u typed e =
     let sound : Sound ds oid (values is) = record { words = typed.1; few = few_ok (length ds) u n.1; typed = typed.0; fits = count ∙ ap Some (sym (all_values is n.0)) } in
     Array-written.written_back ds oid (values is) (Array-written.all_short is typed.2) sound
 
-raised_ok : {X : Type 0} (r : Result X Fault) (x : X) → from_serializer r ≡ Ok x → r ≡ Ok x
-raised_ok (Ok y) x e = e
-raised_ok (Err f) x e = let z : ◌≡◌ {A = ℕ} 0 1 = cc in absurd (omega arith)
-
 range_reads : (lower upper : _) (is : List Item) (h : Held) → TypedContent (range lower upper is) → held (range lower upper is) ≡ Ok h → ReadsAs h (value_of h)
 range_reads lower upper is h short e =
     let t = then_ok (range_bounds lower upper is) (λ p. Ok (a_range p.0 p.1)) h e in
     let same : a_range t.0.0 t.0.1 ≡ h = let q = t.2 in cc in
-    let both = raised_ok (then (bound_item is lower) (λ l. then (bound_item is upper) (λ u. Ok (l, u)))) t.0 t.1 in
+    let both = above_ok (then (bound_item is lower) (λ l. then (bound_item is upper) (λ u. Ok (l, u)))) t.0 t.1 in
     let l = then_ok (bound_item is lower) (λ l. then (bound_item is upper) (λ u. Ok (l, u))) t.0 both in
     let u = then_ok (bound_item is upper) (λ u. Ok (l.0, u)) t.0 l.2 in
     let pair : ◌≡◌ (l.0, u.0) t.0 = let q = u.2 in cc in
@@ -127,7 +125,7 @@ box_reads b d f =
 pub held_reads : (c : Content) (h : Held) → TypedContent c → held c ≡ Ok h → ReadsAs h (value_of h)
 held_reads null h typed e = let same : no_value ≡ h = cc in subst (λ g. ReadsAs g (value_of g)) same refl
 held_reads (column is k) h typed e =
-    let t = then_ok (from_serializer (item_at is k)) (λ v. Ok (an_item v)) h e in
+    let t = then_ok (above (item_at is k)) (λ v. Ok (an_item v)) h e in
     let same : an_item t.0 ≡ h = let q = t.2 in cc in
     subst (λ g. ReadsAs g (value_of g)) same refl
 held_reads (array oid ds is) h typed e =

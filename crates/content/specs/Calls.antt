@@ -11,8 +11,9 @@ use Rattle.serializer.specs.Lists.{item_at, values}
 use Rattle.texts.specs.Places.{Bytes}
 use Rattle.wire.specs.Items.{Item}
 use Rattle.wire.specs.Words.{then}
+use Rattle.rows.specs.Windows.{above}
 use Rattle.content.specs.Held.{Held, no_value, an_item, an_array, a_range, the_empty_range, an_hstore, a_varbit, a_point, a_box, a_path, an_inet}
-use Rattle.content.specs.Rules.{few, from_serializer, array_rule, range_bounds, hstore_entries, varbit_rule, inet_rule}
+use Rattle.content.specs.Rules.{few, array_rule, range_bounds, hstore_entries, varbit_rule, inet_rule}
 
 pub data Content : Type 0 where
   null : Content
@@ -36,7 +37,7 @@ pub data Content : Type 0 where
 -- what a column is to hold, or the first broken rule of the call's own and of the items
 abbrev pub held : Content → Result Held Fault
 held null = Ok no_value
-held (column is k) = then (from_serializer (item_at is k)) (λ v. Ok (an_item v))
+held (column is k) = then (above (item_at is k)) (λ v. Ok (an_item v))
 held (array oid ds is) = then (array_rule ds is) (λ _. Ok (an_array oid ds (values is)))
 held (range lower upper is) = then (range_bounds lower upper is) (λ p. Ok (a_range p.0 p.1))
 held empty_range = Ok the_empty_range

@@ -1,5 +1,5 @@
 -- What is written for each kind of column, or the first broken rule; and serializers of one item.
-use Rattle.std.specs.Prelude.{ℕ, zero, suc, Bool, List, [], ◌∷◌, map, length, Some, None, Ok, Err, slice_index_or}
+use Rattle.std.specs.Prelude.{ℕ, zero, suc, Bool, List, [], ◌∷◌, map, length, None, Ok, Err, slice_index_or}
 use Rattle.fault.specs.declared.Fault.{Fault}
 use Rattle.array.specs.declared.dimension.ArrayDimension.{ArrayDimension}
 use Rattle.array.specs.Layout.{array_layout}
@@ -18,8 +18,8 @@ use Rattle.wire.specs.Encoding.{Encoding}
 use Rattle.wire.specs.Items.{Item}
 use Rattle.wire.specs.Words.{then}
 use Rattle.rows.specs.Rows.{row_items, rows_short}
-use Rattle.rows.specs.Windows.{above}
-use Rattle.content.specs.Rules.{few, from_serializer, array_rule, range_bounds, hstore_entries, varbit_rule, inet_rule}
+use Rattle.rows.specs.Windows.{above, above_short}
+use Rattle.content.specs.Rules.{few, array_rule, range_bounds, hstore_entries, varbit_rule, inet_rule}
 
 -- the one item of what is encoded
 abbrev pub one_item : Encoding → List Item
@@ -51,19 +51,9 @@ pub null_short : (k : ℕ) → Short (item_at (Ok None ∷ []) k)
 null_short zero = tt
 null_short (suc k) = tt
 
-chosen_by : (i : Item) → Short i → Short (from_serializer i)
-chosen_by (Ok None) h = h
-chosen_by (Ok (Some bs)) h = h
-chosen_by (Err f) h = tt
-
-pub chosen_short : (i : Item) → Short i → (k : ℕ) → Short (item_at (from_serializer i ∷ []) k)
-chosen_short i h zero = chosen_by i h
+pub chosen_short : (i : Item) → Short i → (k : ℕ) → Short (item_at (above i ∷ []) k)
+chosen_short i h zero = above_short i h
 chosen_short i h (suc k) = tt
-
-above_short : (i : Item) → Short i → Short (above i)
-above_short (Ok None) h = h
-above_short (Ok (Some bs)) h = h
-above_short (Err f) h = tt
 
 raised_at : (is : List Item) (k : ℕ) (f g : Fault) → Short (slice_index_or is k (Err g)) → Short (slice_index_or (map above is) k (Err f))
 raised_at [] k f g h = tt

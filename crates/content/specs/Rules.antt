@@ -17,6 +17,7 @@ use Rattle.texts.specs.Places.{Bytes}
 use Rattle.varbit.specs.Layout.{begun}
 use Rattle.wire.specs.Items.{Item}
 use Rattle.wire.specs.Words.{Value, then}
+use Rattle.rows.specs.Windows.{above}
 
 -- a rule is kept, or broken by one fault
 abbrev pub Kept : Type 0
@@ -25,11 +26,6 @@ Kept = Result (Unit {0}) Fault
 -- a count that a signed word holds
 abbrev pub few : ℕ → Kept
 few n = cond (nat_lt n (2 ^ 31)) (Ok tt) (Err (fault TooGreat 0))
-
--- the faults of a serializer as a call sees them: the place kept, one level further down
-abbrev pub from_serializer : {X : Type 0} → Result X Fault → Result X Fault
-from_serializer (Ok x) = Ok x
-from_serializer (Err f) = Err (raise f)
 
 -- the product up to dimension i: the dimension is bad where its length is negative or the product too great
 abbrev pub factor : ℕ → ℕ → ℤ → Result ℕ Fault
@@ -49,9 +45,9 @@ dimensions_fit ds n = then (product_of 0 1 ds) (λ p. cond (cond (length ds == 0
 abbrev pub array_rule : List ArrayDimension → List Item → Kept
 array_rule ds is = then (dimensions_fit ds (length is)) (λ _. refused_or (option_map raise (first_fault is)) (few (length ds)))
 
--- the bounds with their items, lower before upper
+-- the bounds with their items, lower before upper; a fault of the serializer is seen from above
 abbrev pub range_bounds : RangeBound ℕ → RangeBound ℕ → List Item → Result (RangeBound Value × RangeBound Value) Fault
-range_bounds lower upper is = from_serializer (then (bound_item is lower) (λ l. then (bound_item is upper) (λ u. Ok (l, u))))
+range_bounds lower upper is = above (then (bound_item is lower) (λ l. then (bound_item is upper) (λ u. Ok (l, u))))
 
 -- the entries by their texts: an absent key, then the texts, then the number of entries
 abbrev pub hstore_entries : Bytes → List HstoreEntry → Result (List Entry) Fault

@@ -2,9 +2,10 @@
 ghost use Rattle.std.specs.Prelude.{[], ◌∷◌, None, Ok};
 ghost use Rattle.serializer.specs.Lists.{item_at};
 ghost use Rattle.content.specs.Encoders.{null_short, chosen_short};
-ghost use Rattle.content.specs.Rules.{from_serializer};
+ghost use Rattle.rows.specs.Windows.{above};
 
 use fault::{Fault, Rule};
+use rows::above::{size_above, write_above};
 use serializer::serializer::Serializer;
 use wire::oid::IsNull;
 
@@ -44,7 +45,7 @@ pub struct Chosen<'a, S> {
 }
 
 impl<'a, S: Serializer> Serializer for Chosen<'a, S> {
-    ghost items = { λ c. from_serializer (item_at (S.Serializer.items c.inner.now) c.number) ∷ [] };
+    ghost items = { λ c. above (item_at (S.Serializer.items c.inner.now) c.number) ∷ [] };
 
     ghost short = { λ c. chosen_short (item_at (S.Serializer.items c.inner.now) c.number) (S.Serializer.short c.inner.now c.number) };
 
@@ -56,22 +57,13 @@ impl<'a, S: Serializer> Serializer for Chosen<'a, S> {
         if k > 0 {
             return Err(Fault::new(Rule::Missing, k));
         }
-        match self.inner.size(self.number) {
-            Ok(size) => Ok(size),
-            Err(fault) => Err(fault.raised()),
-        }
+        size_above(self.inner, self.number)
     }
 
     fn write(&self, k: usize, part: &mut [u8]) -> Result<IsNull, Fault> {
         if k > 0 {
             return Err(Fault::new(Rule::Missing, k));
         }
-        match self.inner.write(self.number, part) {
-            Ok(null) => Ok(null),
-            Err(fault) => match self.inner.size(self.number) {
-                Ok(_) => Err(fault),
-                Err(fault) => Err(fault.raised()),
-            },
-        }
+        write_above(self.inner, self.number, part)
     }
 }

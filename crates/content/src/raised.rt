@@ -4,6 +4,7 @@ ghost use Rattle.rows.specs.Windows.{above};
 ghost use Rattle.content.specs.Encoders.{raised_short};
 
 use fault::{Fault, Rule};
+use rows::above::{size_above, write_above};
 use serializer::serializer::Serializer;
 use wire::oid::IsNull;
 
@@ -26,23 +27,13 @@ impl<'a, S: Serializer> Serializer for Raised<'a, S> {
         if k >= self.inner.count() {
             return Err(Fault::new(Rule::Missing, k));
         }
-        match self.inner.size(k) {
-            Ok(size) => Ok(size),
-            Err(fault) => Err(fault.raised()),
-        }
+        size_above(self.inner, k)
     }
 
     fn write(&self, k: usize, part: &mut [u8]) -> Result<IsNull, Fault> {
         if k >= self.inner.count() {
             return Err(Fault::new(Rule::Missing, k));
         }
-        match self.inner.write(k, part) {
-            Ok(null) => Ok(null),
-            // A fault of the item is seen from above; want of room is this call's own.
-            Err(fault) => match self.inner.size(k) {
-                Ok(_) => Err(fault),
-                Err(fault) => Err(fault.raised()),
-            },
-        }
+        write_above(self.inner, k, part)
     }
 }

@@ -21,20 +21,17 @@ impl<'a, S: Serializer> Encoded for RangeContent<'a, S> {
     ghost encoding = { λ r. range_content r.lower r.upper (S.Serializer.items r.serializer.now) };
 
     fn size(&self) -> Result<usize, Fault> {
-        match range_size(self.lower, self.upper, self.serializer) {
-            Ok(size) => Ok(size),
-            Err(fault) => Err(fault.raised()),
-        }
+        range_size(self.lower, self.upper, self.serializer).map_err(Fault::raised)
     }
 
     fn write(&self, part: &mut [u8]) -> Result<usize, Fault> {
         match range_to_sql(self.lower, self.upper, self.serializer, part) {
             Ok(size) => Ok(size),
             // A fault of an item is seen from above; want of room is this call's own.
-            Err(fault) => match range_size(self.lower, self.upper, self.serializer) {
-                Ok(_) => Err(fault),
-                Err(fault) => Err(fault.raised()),
-            },
+            Err(fault) => {
+                self.size()?;
+                Err(fault)
+            }
         }
     }
 }

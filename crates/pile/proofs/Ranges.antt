@@ -12,9 +12,8 @@ use Rattle.range.specs.Layout.{range_layout}
 use Rattle.range.specs.Recv.{range_recv}
 use Rattle.range.proofs.Layouts.{written_back}
 use Rattle.rows.specs.Windows.{window, window_short}
-use Rattle.rows.proofs.Windowing.{window_item, window_past}
+use Rattle.rows.proofs.Windowing.{window_item, window_past, above_ok}
 use Rattle.pile.specs.Back.{SideBack, inclusive, exclusive, unbounded}
-use Rattle.pile.proofs.Written.{above_ok}
 
 -- an item that has a value through the window has it below
 item_below : (is : List Item) (n k : ℕ) (v : Value) → item_at (window is 0 n) k ≡ Ok v → item_at is k ≡ Ok v

@@ -49,11 +49,6 @@ row_has P [] m k r all e = let z : ◌≡◌ {A = ℕ} 0 1 = cc in absurd (omega
 row_has P (x ∷ rs) m zero r all e = let same : x ≡ r = cc in subst P same all.0
 row_has P (x ∷ rs) m (suc k) r all e = row_has P rs m k r all.1 e
 
--- an item that has a value from above has it below
-pub above_ok : (i : Item) (v : Value) → above i ≡ Ok v → i ≡ Ok v
-above_ok (Ok u) v e = e
-above_ok (Err f) v e = let z : ◌≡◌ {A = ℕ} 0 1 = cc in absurd (omega arith)
-
 -- the values of a window without faults are those of the items below, in order
 pub record Seen (is : List Item) (first n : ℕ) : Type 0 where
   pub counted : length (values (window is first n)) ≡ n

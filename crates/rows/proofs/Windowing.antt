@@ -1,12 +1,11 @@
 -- Items seen through a window.
-use Rattle.std.proofs.Common.{◌≡◌, ℕ, zero, suc, ◌+◌, ◌<◌, ◌≤◌, Bool, true, false, cond, ltb, List, length, get_or, Ok, Err, Option, sym, refl, ap, ◌∙◌, arith}
+use Rattle.std.proofs.Common.{◌≡◌, ℕ, zero, suc, ◌+◌, ◌<◌, ◌≤◌, Bool, true, false, cond, ltb, List, length, get_or, Ok, Err, Result, sym, refl, ap, ◌∙◌, arith}
 use Rattle.std.proofs.lemmas.Bool.{ltb-true, ltb-false}
 use Rattle.fault.specs.declared.Fault.{Fault}
 use Rattle.fault.specs.declared.Rule.TheVariants.{Missing}
-use Rattle.fault.specs.Faults.{fault, raise}
+use Rattle.fault.specs.Faults.{fault}
 use Rattle.serializer.specs.Lists.{item_at}
-use Rattle.wire.specs.declared.oid.IsNull.{IsNull}
-use Rattle.wire.specs.Items.{Item, size_of, null_of, fitting, filled}
+use Rattle.wire.specs.Items.{Item}
 use Rattle.rows.specs.Windows.{above, window, number_at}
 
 pub window_length : (is : List Item) (first n : ℕ) → length (window is first n) ≡ n
@@ -50,26 +49,7 @@ unnumbered is first n k f e =
     let p = number_out first n k f (ltb k n) refl e in
     window_past is first n k p.0 ∙ ap Err (sym p.1)
 
--- sizes seen from above
-pub size_above : (i : Item) (o : Option ℕ) → Ok o ≡ size_of i → Ok o ≡ size_of (above i)
-size_above (Ok v) o e = e
-size_above (Err f) o e = let z : ◌≡◌ {A = ℕ} 0 1 = cc in absurd (omega arith)
-
-pub fault_above : (i : Item) (f : Fault) → Err f ≡ size_of i → above i ≡ Err (raise f)
-fault_above (Ok v) f e = let z : ◌≡◌ {A = ℕ} 0 1 = cc in absurd (omega arith)
-fault_above (Err h) f e = let same : h ≡ f = cc in ap (λ x. Err (raise x)) same
-
--- an item with a size is the same from above
-pub sized_above : (i : Item) (o : Option ℕ) → Ok o ≡ size_of i → above i ≡ i
-sized_above (Ok v) o e = refl
-sized_above (Err f) o e = let z : ◌≡◌ {A = ℕ} 0 1 = cc in absurd (omega arith)
-
--- an item that was written is the same from above
-pub written_above : (room : ℕ) (i : Item) (null : IsNull) → Ok null ≡ null_of (fitting room i) → above i ≡ i
-written_above room (Ok v) null e = refl
-written_above room (Err f) null e = let z : ◌≡◌ {A = ℕ} 0 1 = cc in absurd (omega arith)
-
--- an item with a fault leaves the part as it was
-pub fault_leaves : (room : ℕ) (i : Item) (f : Fault) (part : List ℕ) → Err f ≡ size_of i → filled (fitting room i) part ≡ part
-fault_leaves room (Ok v) f part e = let z : ◌≡◌ {A = ℕ} 0 1 = cc in absurd (omega arith)
-fault_leaves room (Err h) f part e = refl
+-- a result that is Ok from above is so below
+pub above_ok : {X : Type 0} (r : Result X Fault) (x : X) → above r ≡ Ok x → r ≡ Ok x
+above_ok (Ok y) x e = e
+above_ok (Err f) x e = let z : ◌≡◌ {A = ℕ} 0 1 = cc in absurd (omega arith)

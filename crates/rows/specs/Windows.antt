@@ -6,9 +6,9 @@ use Rattle.fault.specs.Faults.{fault, raise}
 use Rattle.serializer.specs.Lists.{Short, item_at}
 use Rattle.wire.specs.Items.{Item}
 
--- an item seen from above: a fault keeps its place, one level further down
-abbrev pub above : Item → Item
-above (Ok v) = Ok v
+-- an item, or another result, seen from above: a fault keeps its place, one level further down
+abbrev pub above : {X : Type 0} → Result X Fault → Result X Fault
+above (Ok x) = Ok x
 above (Err f) = Err (raise f)
 
 -- n items from the first on; one that is not there is a fault at its number
@@ -20,7 +20,7 @@ window is first (suc n) = above (item_at is first) ∷ window is (first + 1) n
 abbrev pub number_at : ℕ → ℕ → ℕ → Result ℕ Fault
 number_at first count k = cond (nat_lt k count) (Ok (first + k)) (Err (fault Missing k))
 
-above_short : (i : Item) → Short i → Short (above i)
+pub above_short : (i : Item) → Short i → Short (above i)
 above_short (Ok None) h = h
 above_short (Ok (Some bs)) h = h
 above_short (Err f) h = tt

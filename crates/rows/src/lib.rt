@@ -1,6 +1,7 @@
 //! The rows of layers, the table that holds them, and the items below that a row sees.
 #![tactic(auto)]
 
+pub mod above;
 mod filling;
 pub mod row;
 pub mod table;

@@ -2,6 +2,7 @@
 ghost use Rattle.std.specs.Prelude.{◌≡◌};
 ghost use Rattle.rows.specs.Windows.{number_at, window, window_short};
 
+use crate::above::{size_above, write_above};
 use fault::{Fault, Rule};
 use serializer::serializer::Serializer;
 use wire::oid::IsNull;
@@ -47,21 +48,10 @@ impl<'a, S: Serializer> Serializer for Window<'a, S> {
     }
 
     fn size(&self, k: usize) -> Result<Option<usize>, Fault> {
-        match self.inner.size(self.number(k)?) {
-            Ok(size) => Ok(size),
-            Err(fault) => Err(fault.raised()),
-        }
+        size_above(self.inner, self.number(k)?)
     }
 
     fn write(&self, k: usize, part: &mut [u8]) -> Result<IsNull, Fault> {
-        let number = self.number(k)?;
-        match self.inner.write(number, part) {
-            Ok(null) => Ok(null),
-            // A fault of the item is seen from above; want of room is this call's own.
-            Err(fault) => match self.inner.size(number) {
-                Ok(_) => Err(fault),
-                Err(fault) => Err(fault.raised()),
-            },
-        }
+        write_above(self.inner, self.number(k)?, part)
     }
 }
