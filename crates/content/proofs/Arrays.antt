@@ -48,9 +48,6 @@ content_is oid ds is =
     ∙ ap (λ o. then (dimensions_fit ds (length is)) (λ _. refused_or o (cond (ltb (length ds) (2 ^ 31)) (Ok (array_layout ds oid (values is))) (Err (fault TooGreat 0))))) (sym (fault_raised is))
     ∙ ap (λ vs. then (dimensions_fit ds (length is)) (λ _. refused_or (first_fault (map above is)) (cond (ltb (length ds) (2 ^ 31)) (Ok (array_layout ds oid vs)) (Err (fault TooGreat 0))))) (sym (values_raised is))
 
--- with dimensions that fit, and with others
+-- with dimensions that fit
 pub content_fits : (oid n : ℕ) (ds : List ArrayDimension) (is : List Item) → n ≡ length is → Ok tt ≡ dimensions_fit ds n → array_content oid ds is ≡ array_encoding ds oid (map above is)
 content_fits oid n ds is count e = content_is oid ds is ∙ ap (λ k. then k (λ _. array_encoding ds oid (map above is))) (ap (dimensions_fit ds) (sym count) ∙ sym e)
-
-pub content_refused : (oid n : ℕ) (ds : List ArrayDimension) (is : List Item) (f : Fault) → n ≡ length is → Err f ≡ dimensions_fit ds n → array_content oid ds is ≡ Err f
-content_refused oid n ds is f count e = content_is oid ds is ∙ ap (λ k. then k (λ _. array_encoding ds oid (map above is))) (ap (dimensions_fit ds) (sym count) ∙ sym e)

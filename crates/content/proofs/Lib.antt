@@ -1,4 +1,3 @@
 pub mod Arrays
 pub mod Counts
-pub mod Ones
 pub mod Raising

@@ -3,11 +3,11 @@ ghost use Rattle.std.specs.Prelude.{◌≡◌, ◌^◌, ◌<◌, length};
 ghost use Rattle.content.specs.Encoders.{array_content};
 ghost use Rattle.content.specs.Rules.{dimensions_fit, product_of, factor};
 
-use crate::encoded::Encoded;
 use crate::raised::Raised;
 use array::dimension::ArrayDimension;
 use array::write::{array_size, array_to_sql};
 use fault::{Fault, Rule};
+use rows::encoded::Encoded;
 use serializer::serializer::Serializer;
 use wire::oid::Oid;
 

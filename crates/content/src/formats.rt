@@ -4,12 +4,12 @@ ghost use Rattle.geometry.specs.Layout.{point_layout, box_layout};
 ghost use Rattle.content.specs.Encoders.{varbit_content, inet_content};
 ghost use Rattle.content.specs.Rules.{varbit_rule, inet_rule};
 
-use crate::encoded::Encoded;
 use double::point::{Box, Point};
 use fault::{Fault, Rule};
 use geometry::write::{box_to_sql, point_to_sql};
 use inet::address::IpAddr;
 use inet::write::inet_to_sql;
+use rows::encoded::Encoded;
 use varbit::write::varbit_to_sql;
 
 // A bit count with its bytes.

@@ -2,9 +2,9 @@
 #![tactic(auto)]
 
 pub mod array_content;
-pub mod encoded;
 pub mod formats;
 pub mod item;
 pub mod lists;
+pub mod one;
 pub mod raised;
 pub mod range_content;

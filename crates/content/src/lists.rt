@@ -2,12 +2,12 @@
 ghost use Rattle.texts.specs.Places.{pool_pair};
 ghost use Rattle.content.specs.Encoders.{hstore_content, path_content};
 
-use crate::encoded::Encoded;
 use double::point::Point;
 use fault::Fault;
 use hstore::entry::HstoreEntry;
 use hstore::write::{hstore_size, hstore_to_sql};
 use path::write::{path_size, path_to_sql};
+use rows::encoded::Encoded;
 use texts::pools::Pools;
 
 // Entries by their places.

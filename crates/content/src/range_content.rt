@@ -3,10 +3,10 @@ ghost use Rattle.std.specs.Prelude.{◌≡◌, Ok};
 ghost use Rattle.range.specs.Layout.{empty_layout};
 ghost use Rattle.content.specs.Encoders.{range_content};
 
-use crate::encoded::Encoded;
 use fault::Fault;
 use range::bound::RangeBound;
 use range::write::{empty_range_to_sql, range_size, range_to_sql};
+use rows::encoded::Encoded;
 use serializer::serializer::Serializer;
 
 // Two bounds that name items of a serializer.

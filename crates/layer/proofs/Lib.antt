@@ -1,4 +1,2 @@
 pub mod Itemized
-pub mod Lending
-pub mod Sealing
 pub mod Seen

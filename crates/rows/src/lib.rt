@@ -2,6 +2,7 @@
 #![tactic(auto)]
 
 pub mod above;
+pub mod encoded;
 mod filling;
 pub mod row;
 pub mod table;

@@ -1,7 +1,7 @@
 use Rattle.std.proofs.Common.{length, ap, ◌∙◌}
 use Rattle.wire.specs.Encoding.{told, laid, room_for}
 use Rattle.layer.proofs.Seen.{range_seen}
-use Rattle.layer.proofs.range_layer.write_row.Goals as goal
+use Rattle.layer.proofs.range_layer.RangesRowKind.write.Goals as goal
 
 pub returns-in-Bounds : goal.returns-in-Bounds
 returns-in-Bounds g c =
