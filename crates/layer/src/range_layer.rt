@@ -61,7 +61,7 @@ impl RowKind for Ranges {
             RangeRow::Empty => Ok(1),
             RangeRow::Bounds(lower, upper) => {
                 let window = Window::new(inner, 0, 65536);
-                range_size(numbered(lower), numbered(upper), &window)
+                range_size(lower.map(usize::from), upper.map(usize::from), &window)
             }
         }
     }
@@ -76,19 +76,13 @@ impl RowKind for Ranges {
             RangeRow::Empty => empty_range_to_sql(part),
             RangeRow::Bounds(lower, upper) => {
                 let window = Window::new(inner, 0, 65536);
-                range_to_sql(numbered(lower), numbered(upper), &window, part)
+                range_to_sql(
+                    lower.map(usize::from),
+                    upper.map(usize::from),
+                    &window,
+                    part,
+                )
             }
         }
-    }
-}
-
-// A bound by the number of its item.
-fn numbered(bound: RangeBound<u16>) -> RangeBound<usize>
-    ensures { result ≡ bound }
-{
-    match bound {
-        RangeBound::Inclusive(k) => RangeBound::Inclusive(usize::from(k)),
-        RangeBound::Exclusive(k) => RangeBound::Exclusive(usize::from(k)),
-        RangeBound::Unbounded => RangeBound::Unbounded,
     }
 }

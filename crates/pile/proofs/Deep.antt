@@ -8,6 +8,8 @@ use Rattle.wire.specs.Items.{Item}
 use Rattle.wire.specs.Words.{Value}
 use Rattle.serializer.specs.Lists.{Short, item_at, values}
 use Rattle.range.specs.declared.bound.RangeBound.{RangeBound}
+use Rattle.range.specs.Mapping as mapping
+use Rattle.range.specs.Mapping.{Mapped}
 use Rattle.range.specs.Layout.{bound, empty_layout}
 use Rattle.range.specs.Recv.{range_recv}
 use Rattle.rows.specs.declared.row.ArrayRow.{ArrayRow}
@@ -18,7 +20,7 @@ use Rattle.rows.specs.Windows.{window}
 use Rattle.validator.specs.Reading.{Hands, null, accepted, Walks, ends, goes_on, opened, ReadsSide, inclusive, exclusive, unbounded, empty, passed}
 use Rattle.validator.specs.Verdicts.{Verdict, array_verdict, range_verdict}
 use Rattle.pile.specs.Back as back
-use Rattle.pile.specs.Back.{ReadsItem, SideBack, ArrayBack, RangeBack, bounds, RowBack, pile_back, ReadsBack}
+use Rattle.pile.specs.Back.{ReadsItem, ArrayBack, RangeBack, bounds, RowBack, pile_back, ReadsBack}
 use Rattle.pile.specs.Match.{Accepts, AcceptsAll, Matching}
 use Rattle.pile.specs.Piles.{Rows, array_rows, range_rows, By, Typed, layer_of, layer_items, pile_items, layer_verdict, pile_verdict}
 use Rattle.pile.proofs.Agree.{Agrees, array_agrees, range_agrees}
@@ -61,10 +63,10 @@ module _ (v : Verdict) (is : List Item) (short : (k : ℕ) → Short (item_at is
       let walk = values_pass o.items (λ i at h. value_passes (r.first + i) at (get_or vs i None) (a.found.each i (omega (arith, a.found.counted)))) in
       (array_agrees v (By v) (by_agrees v)).only ws (Ok tt) (opened o.opens walk)
 
-  side_passes : (at : ℕ) (b : RangeBound ℕ) (c : RangeBound Value) → SideBack (λ k x. item_at is k ≡ Ok x) b c → ReadsSide (By v) at c (Ok tt)
-  side_passes at _ _ (back.inclusive {k = k} {v = x} e) = inclusive (value_passes k at x e)
-  side_passes at _ _ (back.exclusive {k = k} {v = x} e) = exclusive (value_passes k at x e)
-  side_passes at _ _ back.unbounded = unbounded
+  side_passes : (at : ℕ) (b : RangeBound ℕ) (c : RangeBound Value) → Mapped (λ k x. item_at is k ≡ Ok x) b c → ReadsSide (By v) at c (Ok tt)
+  side_passes at _ _ (mapping.inclusive {x = k} {y = x} e) = inclusive (value_passes k at x e)
+  side_passes at _ _ (mapping.exclusive {x = k} {y = x} e) = exclusive (value_passes k at x e)
+  side_passes at _ _ mapping.unbounded = unbounded
 
   range_accepted : (r : RangeRow) (ws : List ℕ) → range_row is r ≡ Ok ws → range_verdict v ws ≡ Ok tt
   range_accepted Empty ws e =
@@ -98,10 +100,10 @@ module _ (below : ReadsItem) (is : List Item) (short : (k : ℕ) → Short (item
       let a = array_read oid is r ws short typed few e in
       record { values = values (window is r.first r.count); opens = a.opens; counted = a.found.counted; items = λ i h. reads (r.first + i) _ (a.found.each i h) }
 
-  side_back : (b : RangeBound ℕ) (c : RangeBound Value) → SideBack (λ k x. item_at is k ≡ Ok x) b c → SideBack below b c
-  side_back _ _ (back.inclusive {k = k} {v = x} e) = back.inclusive (reads k x e)
-  side_back _ _ (back.exclusive {k = k} {v = x} e) = back.exclusive (reads k x e)
-  side_back _ _ back.unbounded = back.unbounded
+  side_back : (b : RangeBound ℕ) (c : RangeBound Value) → Mapped (λ k x. item_at is k ≡ Ok x) b c → Mapped below b c
+  side_back _ _ (mapping.inclusive {x = k} {y = x} e) = mapping.inclusive (reads k x e)
+  side_back _ _ (mapping.exclusive {x = k} {y = x} e) = mapping.exclusive (reads k x e)
+  side_back _ _ mapping.unbounded = mapping.unbounded
 
   range_back : (r : RangeRow) (ws : List ℕ) → range_row is r ≡ Ok ws → RangeBack below r ws
   range_back Empty ws e =

@@ -7,13 +7,13 @@ use Rattle.wire.proofs.Taking.{then_ok}
 use Rattle.serializer.specs.Lists.{Short, item_at}
 use Rattle.range.specs.declared.bound.RangeBound.{RangeBound}
 use Rattle.range.specs.declared.bound.RangeBound.TheVariants.{Inclusive, Exclusive, Unbounded}
+use Rattle.range.specs.Mapping.{Mapped, inclusive, exclusive, unbounded}
 use Rattle.range.specs.Encoding.{bound_item, range_encoding}
 use Rattle.range.specs.Layout.{range_layout}
 use Rattle.range.specs.Recv.{range_recv}
 use Rattle.range.proofs.Layouts.{written_back}
 use Rattle.rows.specs.Windows.{window, window_short}
 use Rattle.rows.proofs.Windowing.{window_item, window_past, above_ok}
-use Rattle.pile.specs.Back.{SideBack, inclusive, exclusive, unbounded}
 
 -- an item that has a value through the window has it below
 item_below : (is : List Item) (n k : ℕ) (v : Value) → item_at (window is 0 n) k ≡ Ok v → item_at is k ≡ Ok v
@@ -24,26 +24,26 @@ item_below is n k v e =
     ]
 
 -- a bound with its item, by the item below
-pub side_below : (is : List Item) (n : ℕ) (b : RangeBound ℕ) (c : RangeBound Value) → bound_item (window is 0 n) b ≡ Ok c → SideBack (λ k v. item_at is k ≡ Ok v) b c
+pub side_below : (is : List Item) (n : ℕ) (b : RangeBound ℕ) (c : RangeBound Value) → bound_item (window is 0 n) b ≡ Ok c → Mapped (λ k v. item_at is k ≡ Ok v) b c
 side_below is n (Inclusive k) c e =
     let t = then_ok (item_at (window is 0 n) k) (λ v. Ok (Inclusive v)) c e in
     let same : Inclusive t.0 ≡ c = let q = t.2 in cc in
-    subst (SideBack (λ j v. item_at is j ≡ Ok v) (Inclusive k)) same (inclusive (item_below is n k t.0 t.1))
+    subst (Mapped (λ j v. item_at is j ≡ Ok v) (Inclusive k)) same (inclusive (item_below is n k t.0 t.1))
 side_below is n (Exclusive k) c e =
     let t = then_ok (item_at (window is 0 n) k) (λ v. Ok (Exclusive v)) c e in
     let same : Exclusive t.0 ≡ c = let q = t.2 in cc in
-    subst (SideBack (λ j v. item_at is j ≡ Ok v) (Exclusive k)) same (exclusive (item_below is n k t.0 t.1))
+    subst (Mapped (λ j v. item_at is j ≡ Ok v) (Exclusive k)) same (exclusive (item_below is n k t.0 t.1))
 side_below is n Unbounded c e =
     let same : Unbounded ≡ c = cc in
-    subst (SideBack (λ j v. item_at is j ≡ Ok v) Unbounded) same unbounded
+    subst (Mapped (λ j v. item_at is j ≡ Ok v) Unbounded) same unbounded
 
 -- a range row that was written: it is read as its bounds with their items
 pub record RangeRead (is : List Item) (lower upper : RangeBound ℕ) (ws : List ℕ) : Type 0 where
   pub l : RangeBound Value
   pub u : RangeBound Value
   pub reads : range_recv ws ≡ Ok (Some (l, u))
-  pub low : SideBack (λ k v. item_at is k ≡ Ok v) lower l
-  pub high : SideBack (λ k v. item_at is k ≡ Ok v) upper u
+  pub low : Mapped (λ k v. item_at is k ≡ Ok v) lower l
+  pub high : Mapped (λ k v. item_at is k ≡ Ok v) upper u
 
 pub range_read : (is : List Item) (lower upper : RangeBound ℕ) (ws : List ℕ) → ((k : ℕ) → Short (item_at is k)) → range_encoding (window is 0 65536) lower upper ≡ Ok ws → RangeRead is lower upper ws
 range_read is lower upper ws short e =

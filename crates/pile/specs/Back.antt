@@ -3,7 +3,7 @@ use Rattle.std.specs.Prelude.{◌≡◌, ℕ, ◌+◌, ◌<◌, List, [], ◌∷
 use Rattle.array.specs.Layout.{has_null}
 use Rattle.array.specs.Laws.{Opens}
 use Rattle.range.specs.declared.bound.RangeBound.{RangeBound}
-use Rattle.range.specs.declared.bound.RangeBound.TheVariants.{Inclusive, Exclusive, Unbounded}
+use Rattle.range.specs.Mapping.{Mapped}
 use Rattle.range.specs.Recv.{range_recv}
 use Rattle.rows.specs.declared.row.ArrayRow.{ArrayRow}
 use Rattle.rows.specs.declared.row.RangeRow.{RangeRow}
@@ -20,12 +20,6 @@ use Rattle.pile.specs.Piles.{Rows, array_rows, range_rows, Typed, pile_items}
 abbrev pub ReadsItem : Type 1
 ReadsItem = ℕ → Value → Type 0
 
--- a bound is read back with its kind and its item
-pub data SideBack (below : ReadsItem) : RangeBound ℕ → RangeBound Value → Type 0 where
-  inclusive : {k : ℕ} {v : Value} → below k v → SideBack below (Inclusive k) (Inclusive v)
-  exclusive : {k : ℕ} {v : Value} → below k v → SideBack below (Exclusive k) (Exclusive v)
-  unbounded : SideBack below Unbounded Unbounded
-
 -- an array row reads back as its layer's element OID, its dimension if it has one, and its items in order
 pub record ArrayBack (below : ReadsItem) (oid : ℕ) (r : ArrayRow) (bs : List ℕ) : Type 0 where
   pub values : List Value
@@ -36,7 +30,7 @@ pub record ArrayBack (below : ReadsItem) (oid : ℕ) (r : ArrayRow) (bs : List �
 -- a range row reads back as empty, or as the kinds of its two bounds with their items
 pub data RangeBack (below : ReadsItem) : RangeRow → List ℕ → Type 0 where
   empty : {bs : List ℕ} → range_recv bs ≡ Ok None → RangeBack below Empty bs
-  bounds : {lower upper : RangeBound ℕ} {l u : RangeBound Value} {bs : List ℕ} → range_recv bs ≡ Ok (Some (l, u)) → SideBack below lower l → SideBack below upper u → RangeBack below (Bounds lower upper) bs
+  bounds : {lower upper : RangeBound ℕ} {l u : RangeBound Value} {bs : List ℕ} → range_recv bs ≡ Ok (Some (l, u)) → Mapped below lower l → Mapped below upper u → RangeBack below (Bounds lower upper) bs
 
 -- item k of a layer is a payload, that of its row k
 pub record RowBack {R : Type 0} (rows : List R) (Back : R → List ℕ → Type 0) (k : ℕ) (v : Value) : Type 0 where

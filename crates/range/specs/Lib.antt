@@ -1,4 +1,5 @@
 pub mod Encoding
 pub mod Laws
+pub mod Mapping
 pub mod Layout
 pub mod Recv

@@ -1,4 +1,5 @@
 //! Bounds and ranges.
+ghost use Rattle.range.specs.Mapping.{ForBound, Mapped};
 
 // One side of a range. In writing it holds an item's number, in reading a payload or NULL.
 #[derive(Clone, Copy, PartialEq, Eq, Debug)]
@@ -6,6 +7,20 @@ pub enum RangeBound<T> {
     Inclusive(T),
     Exclusive(T),
     Unbounded,
+}
+
+impl<T> RangeBound<T> {
+    // The same kind of bound, around what the function makes of its value.
+    pub fn map<U, F: FnOnce(T) -> U>(self, f: F) -> RangeBound<U>
+        requires { ForBound self (F.pre f) }
+        ensures { Mapped (F.post f) self result }
+    {
+        match self {
+            RangeBound::Inclusive(value) => RangeBound::Inclusive(f(value)),
+            RangeBound::Exclusive(value) => RangeBound::Exclusive(f(value)),
+            RangeBound::Unbounded => RangeBound::Unbounded,
+        }
+    }
 }
 
 // A range that was read.

@@ -3,4 +3,5 @@
 
 pub mod bound;
 pub mod read;
+mod side;
 pub mod write;

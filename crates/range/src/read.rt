@@ -4,6 +4,7 @@ ghost use Rattle.range.specs.Laws.{ReadsBack, OnlyForms};
 ghost use Rattle.range.specs.Recv.{bound_at, told_bound, told_range, range_recv};
 
 use crate::bound::{Range, RangeBound};
+use crate::side::Side;
 use fault::{Fault, Rule};
 use wire::read::read_value;
 use wire::word::Word;
@@ -28,8 +29,8 @@ fn decode(buf: &[u8]) -> Result<Range<'_>, Fault>
         }
         return Ok(Range::Empty);
     }
-    let (lower, at) = read_bound(buf, 1, tag, 2, 8)?;
-    let (upper, end) = read_bound(buf, at, tag, 4, 16)?;
+    let (lower, at) = read_bound(buf, 1, tag, Side::LOWER)?;
+    let (upper, end) = read_bound(buf, at, tag, Side::UPPER)?;
     if buf.len() > end {
         return Err(Fault::new(Rule::Trailing, end));
     }
@@ -42,12 +43,11 @@ fn read_bound(
     buf: &[u8],
     at: usize,
     tag: u8,
-    inclusive: u8,
-    unbounded: u8,
+    side: Side,
 ) -> Result<(RangeBound<Option<&[u8]>>, usize), Fault>
-    ensures { told_bound result ≡ bound_at tag inclusive unbounded buf.now at }
+    ensures { told_bound result ≡ bound_at tag side.inclusive side.unbounded buf.now at }
 {
-    if tag & unbounded != 0 {
+    if tag & side.unbounded != 0 {
         return Ok((RangeBound::Unbounded, at));
     }
     let value = read_value(buf, at)?;
@@ -55,7 +55,7 @@ fn read_bound(
         None => at + 4,
         Some(payload) => at + 4 + payload.len(),
     };
-    if tag & inclusive != 0 {
+    if tag & side.inclusive != 0 {
         Ok((RangeBound::Inclusive(value), end))
     } else {
         Ok((RangeBound::Exclusive(value), end))

@@ -8,6 +8,7 @@ ghost use Rattle.range.specs.Layout.{side_tag, tag, empty_layout};
 ghost use Rattle.range.specs.Recv.{range_recv};
 
 use crate::bound::RangeBound;
+use crate::side::Side;
 use fault::{Fault, Rule};
 use serializer::nullable::write_nullable;
 use serializer::serializer::Serializer;
@@ -72,10 +73,10 @@ fn encode<S: Serializer>(
 }
 
 // The number of bytes of a bound with its length word.
-fn bound_size<S: Serializer>(side: RangeBound<usize>, serializer: &S) -> Result<usize, Fault>
-    ensures { result ≡ told (bound_encoding (S.Serializer.items serializer.now) side) }
+fn bound_size<S: Serializer>(bound: RangeBound<usize>, serializer: &S) -> Result<usize, Fault>
+    ensures { result ≡ told (bound_encoding (S.Serializer.items serializer.now) bound) }
 {
-    match side {
+    match bound {
         RangeBound::Inclusive(k) | RangeBound::Exclusive(k) => {
             let size = serializer.size(k)?;
             Ok(4 + size.unwrap_or(0))
@@ -84,37 +85,37 @@ fn bound_size<S: Serializer>(side: RangeBound<usize>, serializer: &S) -> Result<
     }
 }
 
-// The tag: 2 and 4 for an inclusive lower and upper bound, 8 and 16 for none.
+// The tag: the bits of both sides.
 fn tag(lower: RangeBound<usize>, upper: RangeBound<usize>) -> u8
     ensures { result ≡ tag lower upper }
 {
-    side_tag(lower, 2, 8) | side_tag(upper, 4, 16)
+    side_tag(lower, Side::LOWER) | side_tag(upper, Side::UPPER)
 }
 
-// The tag bits of a side.
-fn side_tag(side: RangeBound<usize>, inclusive: u8, unbounded: u8) -> u8
-    ensures { result ≡ side_tag inclusive unbounded side }
+// The tag bits of a side with this bound.
+fn side_tag(bound: RangeBound<usize>, side: Side) -> u8
+    ensures { result ≡ side_tag side.inclusive side.unbounded bound }
 {
-    match side {
-        RangeBound::Inclusive(_) => inclusive,
+    match bound {
+        RangeBound::Inclusive(_) => side.inclusive,
         RangeBound::Exclusive(_) => 0,
-        RangeBound::Unbounded => unbounded,
+        RangeBound::Unbounded => side.unbounded,
     }
 }
 
 // Writes a bound at `at`, and answers the place behind it.
 fn write_bound<S: Serializer>(
-    side: RangeBound<usize>,
+    bound: RangeBound<usize>,
     serializer: &S,
     part: &mut [u8],
     at: usize,
 ) -> Result<usize, Fault>
-    requires sound { is_ok (bound_encoding (S.Serializer.items serializer.now) side) ≡ true }
-    requires room { at + length (bytes (bound_encoding (S.Serializer.items serializer.now) side)) ≤ length part.old }
-    ensures answer { result ≡ Ok (at + length (bytes (bound_encoding (S.Serializer.items serializer.now) side))) }
-    ensures after { part.new ≡ put at (bytes (bound_encoding (S.Serializer.items serializer.now) side)) part.old }
+    requires sound { is_ok (bound_encoding (S.Serializer.items serializer.now) bound) ≡ true }
+    requires room { at + length (bytes (bound_encoding (S.Serializer.items serializer.now) bound)) ≤ length part.old }
+    ensures answer { result ≡ Ok (at + length (bytes (bound_encoding (S.Serializer.items serializer.now) bound))) }
+    ensures after { part.new ≡ put at (bytes (bound_encoding (S.Serializer.items serializer.now) bound)) part.old }
 {
-    match side {
+    match bound {
         RangeBound::Inclusive(k) | RangeBound::Exclusive(k) => {
             let size = write_nullable(serializer, k, &mut part[at..])?;
             Ok(at + size)

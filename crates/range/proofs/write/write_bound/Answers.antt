@@ -23,6 +23,6 @@ returns-in_ok-size-in-Inclusive g c =
     let part = c.args.part.now in
     let named = c.in-Inclusive.is in
     record {
-      answer = ap (λ n. Ok (at + n)) (side_told is c.args.side _ at part named c.requires.sound c.requires.room _ c.in_ok-size-in-Inclusive.ensures.answer);
-      after = side_laid is c.args.side _ at part named c.requires.sound c.requires.room _ c.write_nullable.ensures.after;
+      answer = ap (λ n. Ok (at + n)) (side_told is c.args.bound _ at part named c.requires.sound c.requires.room _ c.in_ok-size-in-Inclusive.ensures.answer);
+      after = side_laid is c.args.bound _ at part named c.requires.sound c.requires.room _ c.write_nullable.ensures.after;
     }
