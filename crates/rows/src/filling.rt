@@ -41,9 +41,7 @@ impl<R: Copy> Table<R> {
     pub fn row(&self, k: usize) -> Result<R, Fault>
         ensures { result ≡ row_at (rows_of self.now) k }
     {
-        if k >= self.used {
-            return Err(Fault::new(Rule::Missing, k));
-        }
-        Ok(self.rows[k])
+        let rows = &self.rows[..self.used];
+        rows.get(k).copied().ok_or(Fault::new(Rule::Missing, k))
     }
 }
