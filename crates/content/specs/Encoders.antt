@@ -21,13 +21,6 @@ use Rattle.rows.specs.Rows.{row_items, rows_short}
 use Rattle.rows.specs.Windows.{above, above_short}
 use Rattle.content.specs.Rules.{few, array_rule, range_bounds, hstore_entries, varbit_rule, inet_rule}
 
--- the one item of what is encoded
-abbrev pub one_item : Encoding → List Item
-one_item e = row_items (λ x. x) 0 (e ∷ [])
-
-pub one_short : (e : Encoding) (k : ℕ) → Short (item_at (one_item e) k)
-one_short e k = rows_short (λ x. x) (e ∷ []) k
-
 abbrev pub array_content : ℕ → List ArrayDimension → List Item → Encoding
 array_content oid ds is = then (array_rule ds is) (λ _. Ok (array_layout ds oid (values is)))
 
@@ -47,13 +40,9 @@ abbrev pub inet_content : IpAddr → ℕ → Encoding
 inet_content a mask = then (inet_rule a mask) (λ _. Ok (inet_layout a mask))
 
 -- payloads stay short
-pub null_short : (k : ℕ) → Short (item_at (Ok None ∷ []) k)
-null_short zero = tt
-null_short (suc k) = tt
-
-pub chosen_short : (i : Item) → Short i → (k : ℕ) → Short (item_at (above i ∷ []) k)
-chosen_short i h zero = above_short i h
-chosen_short i h (suc k) = tt
+pub only_short : (i : Item) → Short i → (k : ℕ) → Short (item_at (i ∷ []) k)
+only_short i h zero = h
+only_short i h (suc k) = tt
 
 raised_at : (is : List Item) (k : ℕ) (f g : Fault) → Short (slice_index_or is k (Err g)) → Short (slice_index_or (map above is) k (Err f))
 raised_at [] k f g h = tt

@@ -1,4 +1,4 @@
-//! What the columns of a sheet are filled with, each as a serializer of one item.
+//! What the columns of a sheet are filled with: each is one item.
 #![tactic(auto)]
 
 pub mod array_content;
@@ -6,5 +6,6 @@ pub mod formats;
 pub mod item;
 pub mod lists;
 pub mod one;
+pub mod one_item;
 pub mod raised;
 pub mod range_content;

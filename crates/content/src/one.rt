@@ -1,37 +1,27 @@
-//! What is encoded, as the one item.
-ghost use Rattle.content.specs.Encoders.{one_item, one_short};
+//! What is encoded, as the item.
+ghost use Rattle.rows.specs.Rows.{sealed, sealed_short};
 
-use fault::{Fault, Rule};
+use crate::one_item::Content;
+use fault::Fault;
 use rows::encoded::{Encoded, sealed_size, write_sealed};
-use serializer::serializer::Serializer;
 use wire::oid::IsNull;
 
-// A serializer of one item: what is encoded.
+// An encoded value, as the item.
 #[derive(Clone, Copy)]
 pub struct One<E> {
     pub encoded: E,
 }
 
-impl<E: Encoded> Serializer for One<E> {
-    ghost items = { λ o. one_item (E.Encoded.encoding o.encoded) };
+impl<E: Encoded> Content for One<E> {
+    ghost item = { λ o. sealed 0 (E.Encoded.encoding o.encoded) };
 
-    ghost short = { λ o. one_short (E.Encoded.encoding o.encoded) };
+    ghost short = { λ o. sealed_short 0 (E.Encoded.encoding o.encoded) };
 
-    fn count(&self) -> usize {
-        1
+    fn size(&self) -> Result<Option<usize>, Fault> {
+        sealed_size(&self.encoded, 0)
     }
 
-    fn size(&self, k: usize) -> Result<Option<usize>, Fault> {
-        if k > 0 {
-            return Err(Fault::new(Rule::Missing, k));
-        }
-        sealed_size(&self.encoded, k)
-    }
-
-    fn write(&self, k: usize, part: &mut [u8]) -> Result<IsNull, Fault> {
-        if k > 0 {
-            return Err(Fault::new(Rule::Missing, k));
-        }
-        write_sealed(&self.encoded, k, part)
+    fn write(&self, part: &mut [u8]) -> Result<IsNull, Fault> {
+        write_sealed(&self.encoded, 0, part)
     }
 }

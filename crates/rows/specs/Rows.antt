@@ -46,7 +46,7 @@ array_layer oid rows is = row_items (array_row oid is) 0 rows
 abbrev pub range_layer : List RangeRow → List Item → List Item
 range_layer rows is = row_items (range_row is) 0 rows
 
-sealed_short : (k : ℕ) (e : Encoding) → Short (sealed k e)
+pub sealed_short : (k : ℕ) (e : Encoding) → Short (sealed k e)
 sealed_short k (Ok ws) = cond_both (nat_lt (length ws) (2 ^ 31)) (Ok (Some ws)) (Err (fault TooGreat k)) Short (λ e. omega (arith, ltb-true (length ws) (2 ^ 31) e)) (λ e. tt)
 sealed_short k (Err f) = tt
 

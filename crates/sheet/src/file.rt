@@ -1,7 +1,6 @@
 //! Blank sheets, and what all calls share.
 ghost use Rattle.std.specs.Prelude.{◌≡◌, ◌+◌, ◌≤◌, true, ◌++◌, length, is_ok, Ok};
 ghost use Rattle.range.specs.Encoding.{bytes};
-ghost use Rattle.serializer.specs.Lists.{item_at};
 ghost use Rattle.wire.specs.Bytes.{put};
 ghost use Rattle.wire.specs.Encoding.{laid, room_for};
 ghost use Rattle.wire.specs.Items.{nullable_item};
@@ -9,9 +8,9 @@ ghost use Rattle.wire.specs.Words.{be};
 ghost use Rattle.sheet.specs.Filing.{Files, blank_bytes, told_blank, sheet_bytes};
 
 use crate::sheet::Sheet;
+use content::one_item::{Content, Only};
 use fault::{Fault, Rule};
 use serializer::nullable::write_nullable;
-use serializer::serializer::Serializer;
 use wire::oid::Oid;
 use wire::word::Word;
 
@@ -49,16 +48,16 @@ impl Sheet {
         &buffer[0..end]
     }
 
-    // Files the first item of what fills a column.
-    pub(crate) fn file<S: Serializer>(
+    // Files what fills a column.
+    pub(crate) fn file<C: Content>(
         &mut self,
         buffer: &mut [u8],
         oid: Oid,
-        content: &S,
+        content: &C,
     ) -> Result<(), Fault>
-        ensures { Files self.old buffer.old oid (item_at (S.Serializer.items content.now) 0) result self.new buffer.new }
+        ensures { Files self.old buffer.old oid (C.Content.item content.now) result self.new buffer.new }
     {
-        let size = content.size(0)?;
+        let size = content.size()?;
         let bytes = 8 + size.unwrap_or(0);
         if self.columns >= 2_147_483_647 {
             return Err(Fault::new(Rule::TooGreat, 0));
@@ -76,18 +75,18 @@ impl Sheet {
 }
 
 // Writes a column at `at`: its OID, then the item behind its length word.
-fn write_column<S: Serializer>(
-    content: &S,
+fn write_column<C: Content>(
+    content: &C,
     buffer: &mut [u8],
     at: usize,
     oid: Oid,
 ) -> Result<usize, Fault>
-    requires sound { is_ok (item_at (S.Serializer.items content.now) 0) ≡ true }
-    requires room { at + 4 + length (bytes (nullable_item (item_at (S.Serializer.items content.now) 0))) ≤ length buffer.old }
-    ensures answer { result ≡ Ok (at + 4 + length (bytes (nullable_item (item_at (S.Serializer.items content.now) 0)))) }
-    ensures after { buffer.new ≡ put at (be 4 oid ++ bytes (nullable_item (item_at (S.Serializer.items content.now) 0))) buffer.old }
+    requires sound { is_ok (C.Content.item content.now) ≡ true }
+    requires room { at + 4 + length (bytes (nullable_item (C.Content.item content.now))) ≤ length buffer.old }
+    ensures answer { result ≡ Ok (at + 4 + length (bytes (nullable_item (C.Content.item content.now)))) }
+    ensures after { buffer.new ≡ put at (be 4 oid ++ bytes (nullable_item (C.Content.item content.now))) buffer.old }
 {
     let at = u32::put(buffer, at, oid)?;
-    let size = write_nullable(content, 0, &mut buffer[at..])?;
+    let size = write_nullable(&Only { content }, 0, &mut buffer[at..])?;
     Ok(at + size)
 }

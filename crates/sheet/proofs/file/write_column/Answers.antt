@@ -1,5 +1,4 @@
 use Rattle.std.proofs.Common.{◌≡◌, ◌+◌, Ok, ap, ◌∙◌, arith}
-use Rattle.serializer.specs.Lists.{item_at}
 use Rattle.wire.specs.Words.{be}
 use Rattle.wire.proofs.Writing.{told_fits}
 use Rattle.sheet.proofs.Columns.{column_told, column_laid}
@@ -7,7 +6,7 @@ use Rattle.sheet.proofs.file.write_column.Goals as goal
 
 pub returns : goal.returns
 returns g c =
-    let i = item_at (g.S.Serializer.items c.args.content.now) 0 in
+    let i = g.C.Content.item c.args.content.now in
     let b = c.args.buffer.now in
     let at = c.args.at in
     let oid = c.args.oid in
