@@ -2,7 +2,8 @@
 use Rattle.std.proofs.Common.{◌≡◌, ℕ, ◌<◌, ◌≤◌, true, false, cond, eqb, ltb, List, [], ◌∷◌, ◌++◌, length, sym, refl, ap, ◌∙◌, ⊎_elim, arith}
 use Rattle.std.proofs.lemmas.List.{append_assoc, append-nil, length_push, length-take-le, take_all, take-append-le}
 use Rattle.std.proofs.lemmas.Bool.{cases_lt, cond-true, cond-false, lt-ltb, le-ltb, lt-leb, eq-eqb, ne_eqb}
-use Rattle.protocol.specs.Reply.{reply_to, bad_request}
+use Rattle.answers.specs.Plain.{bad_request}
+use Rattle.protocol.specs.Reply.{reply_to}
 use Rattle.codec.specs.Lines.{answer_line, printed, left, cut, Taken, Ended}
 
 cut_short : (line : List ℕ) → length line ≤ 65537 → cut line ≡ line

@@ -4,17 +4,12 @@
 ghost use Rattle.std.specs.Prelude.{◌≡◌, IfOk};
 ghost use Rattle.protocol.specs.Reply.{answer_to, reply_to};
 
+use addressline::requests::{inet_from_sql, inet_to_sql, text_from_sql};
+use answers::plain::bad_request;
 use listing::requests::{element_list, texts};
 use std::alloc::{AllocError, Global};
-use syntax::parse::split_at_first;
-
-mod address;
-mod answers;
-mod requests;
-
-use answers::bad_request;
-use requests::{inet_from_sql, inet_to_sql, text_from_sql};
 use syntax::compare::same;
+use syntax::parse::split_at_first;
 
 // A longer line is a bad request.
 const LONGEST_LINE: usize = 65536;

@@ -4,6 +4,7 @@
 ghost use Rattle.std.specs.Prelude.{◌≡◌, IfOk};
 ghost use Rattle.replies.specs.Reply.{alone_to, answer_to, writing_to, listing_to, reply_to};
 
+use addressline::requests::{inet_from_sql, inet_to_sql, text_from_sql};
 use answers::plain::bad_request;
 use arrayline::requests::{array_from_sql, array_to_sql};
 use checkline::requests::check;
@@ -17,11 +18,6 @@ use shapeline::varbits::{varbit_from_sql, varbit_to_sql};
 use std::alloc::{AllocError, Global};
 use syntax::compare::same;
 use syntax::parse::split_at_first;
-
-mod address;
-mod requests;
-
-use requests::{inet_from_sql, inet_to_sql, text_from_sql};
 
 // A longer line is a bad request.
 const LONGEST_LINE: usize = 1048576;

@@ -1,6 +1,6 @@
 use Rattle.std.proofs.Common.{vec_items, sym, ◌∙◌}
 use Rattle.std.proofs.lemmas.Bool.{cond-true, cond-false}
-use Rattle.protocol.proofs.Answering.{says}
+use Rattle.answers.proofs.Answering.{says}
 use Rattle.protocol.proofs.answer.Goals as goal
 
 pub returns-then-same : goal.returns-then-same

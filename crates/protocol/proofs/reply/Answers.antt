@@ -1,7 +1,7 @@
 use Rattle.std.proofs.Common.{vec_items, sym, ap, ◌∙◌}
 use Rattle.std.proofs.lemmas.Bool.{cond-true, le-leb}
 use Rattle.protocol.specs.Reply.{on_words}
-use Rattle.protocol.proofs.Answering.{says}
+use Rattle.answers.proofs.Answering.{says}
 use Rattle.protocol.proofs.reply.Goals as goal
 
 pub returns-in-Some : goal.returns-in-Some

@@ -3,7 +3,7 @@ ghost use Rattle.std.specs.Prelude.{◌≡◌, ◌++◌, IfOk, OnOk};
 ghost use Rattle.inet.specs.Layout.{octets};
 ghost use Rattle.syntax.specs.Parsed.{split_at};
 ghost use Rattle.syntax.specs.Printed.{hex};
-ghost use Rattle.protocol.specs.Reply.{version, address_text, address_of, address_parts, inet_in};
+ghost use Rattle.addressline.specs.Addresses.{version, address_text, address_of, address_parts, inet_in};
 
 use inet::address::{Inet, IpAddr};
 use std::alloc::{AllocError, Global};

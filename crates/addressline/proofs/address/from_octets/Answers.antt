@@ -1,7 +1,7 @@
 use Rattle.std.proofs.Common.{sym, ap, ◌∙◌}
 use Rattle.std.specs.Result.{result_ok}
-use Rattle.replies.proofs.Addresses.{v6_of}
-use Rattle.replies.proofs.address.from_octets.Goals as goal
+use Rattle.addressline.proofs.Addresses.{v6_of}
+use Rattle.addressline.proofs.address.from_octets.Goals as goal
 
 pub returns-then-bytes-eq16 : goal.returns-then-bytes-eq16
 returns-then-bytes-eq16 c =

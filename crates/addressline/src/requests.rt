@@ -1,19 +1,20 @@
 //! The requests, each by the rest of its line.
 ghost use Rattle.std.specs.Prelude.{◌≡◌, IfOk, Ok};
+ghost use Rattle.answers.specs.Plain.{answered, wrote};
 ghost use Rattle.inet.specs.Layout.{inet_layout};
 ghost use Rattle.inet.specs.Recv.{inet_recv};
 ghost use Rattle.syntax.specs.Parsed.{bytes_in};
 ghost use Rattle.text.specs.Recv.{text_recv};
-ghost use Rattle.protocol.specs.Reply.{text_answer, inet_answer, wrote, on_bytes, on_inet, inet_in};
+ghost use Rattle.addressline.specs.Addresses.{text_answer, inet_answer, inet_in};
 
 use crate::address::{parse_inet, push_inet};
-use crate::answers::{bad_request, refusal};
+use answers::plain::{bad_request, refusal};
+use answers::written::print_written;
 use std::alloc::{AllocError, Global};
 use syntax::parse::parse_bytes;
-use syntax::print::push_hex;
 
 pub fn text_from_sql(heap: Global, argument: &[u8]) -> Result<Vec<u8>, AllocError>
-    ensures { IfOk result (λ v. v.items ≡ on_bytes (λ bs. text_answer (text_recv bs)) (bytes_in argument.now)) }
+    ensures { IfOk result (λ v. v.items ≡ answered (λ bs. text_answer (text_recv bs)) (bytes_in argument.now)) }
 {
     let Some(bytes) = parse_bytes(heap, argument)? else {
         return bad_request(heap);
@@ -25,7 +26,7 @@ pub fn text_from_sql(heap: Global, argument: &[u8]) -> Result<Vec<u8>, AllocErro
 }
 
 pub fn inet_from_sql(heap: Global, argument: &[u8]) -> Result<Vec<u8>, AllocError>
-    ensures { IfOk result (λ v. v.items ≡ on_bytes (λ bs. inet_answer (inet_recv bs)) (bytes_in argument.now)) }
+    ensures { IfOk result (λ v. v.items ≡ answered (λ bs. inet_answer (inet_recv bs)) (bytes_in argument.now)) }
 {
     let Some(bytes) = parse_bytes(heap, argument)? else {
         return bad_request(heap);
@@ -41,23 +42,12 @@ pub fn inet_from_sql(heap: Global, argument: &[u8]) -> Result<Vec<u8>, AllocErro
 }
 
 pub fn inet_to_sql(heap: Global, argument: &[u8]) -> Result<Vec<u8>, AllocError>
-    ensures { IfOk result (λ v. v.items ≡ on_inet (λ i. wrote (Ok (inet_layout i.addr i.netmask))) (inet_in argument.now)) }
+    ensures { IfOk result (λ v. v.items ≡ answered (λ i. wrote (Ok (inet_layout i.addr i.netmask))) (inet_in argument.now)) }
 {
     let Some(inet) = parse_inet(heap, argument)? else {
         return bad_request(heap);
     };
     let mut part = [0u8; 20];
-    match inet::write::inet_to_sql(inet.addr(), inet.netmask(), &mut part) {
-        Ok(written) => print_bytes(heap, &part[..written]),
-        Err(fault) => refusal(heap, fault),
-    }
-}
-
-// The bytes that were written.
-fn print_bytes(heap: Global, bytes: &[u8]) -> Result<Vec<u8>, AllocError>
-    ensures { IfOk result (λ v. v.items ≡ wrote (Ok bytes.now)) }
-{
-    let mut out = Vec::from_slice(heap, b"wrote x")?;
-    push_hex(&mut out, bytes)?;
-    Ok(out)
+    let written = inet::write::inet_to_sql(inet.addr(), inet.netmask(), &mut part);
+    print_written(heap, written, &part)
 }

@@ -1,9 +1,9 @@
 use Rattle.std.proofs.Common.{◌≡◌, ◌++◌, vec_items, decimal, ap, ◌∙◌}
 use Rattle.std.proofs.lemmas.Slice.{pushed}
 use Rattle.std.proofs.lemmas.Result.{IfOk-weaker}
-use Rattle.protocol.specs.Reply.{address_text}
-use Rattle.protocol.proofs.Addresses.{inet_parts}
-use Rattle.protocol.proofs.address.push_inet.Goals as goal
+use Rattle.addressline.specs.Addresses.{address_text}
+use Rattle.addressline.proofs.Addresses.{inet_parts}
+use Rattle.addressline.proofs.address.push_inet.Goals as goal
 
 pub returns : goal.returns
 returns c =

@@ -4,9 +4,9 @@ use Rattle.std.proofs.lemmas.Result.{IfOk-weaker}
 use Rattle.wire.proofs.Wording.{be_4, be_8}
 use Rattle.inet.specs.Layout.{octets}
 use Rattle.syntax.specs.Printed.{hex}
-use Rattle.protocol.specs.Reply.{version}
-use Rattle.protocol.proofs.Addresses.{v4_parts, v6_parts}
-use Rattle.protocol.proofs.address.push_address.Goals as goal
+use Rattle.addressline.specs.Addresses.{version}
+use Rattle.addressline.proofs.Addresses.{v4_parts, v6_parts}
+use Rattle.addressline.proofs.address.push_address.Goals as goal
 
 pub returns-in_ok-extend_from_slice-in-V4 : goal.returns-in_ok-extend_from_slice-in-V4
 returns-in_ok-extend_from_slice-in-V4 c =

@@ -14,7 +14,7 @@ use Rattle.inet.specs.declared.address.IpAddr.{IpAddr}
 use Rattle.inet.specs.declared.address.IpAddr.TheVariants.{V4, V6}
 use Rattle.inet.specs.Layout.{octets, inet_layout}
 use Rattle.syntax.specs.Printed.{hex, hex_byte}
-use Rattle.replies.specs.Reply.{version, address_text, address_of}
+use Rattle.addressline.specs.Addresses.{version, address_text, address_of}
 
 hex_append : (xs ys : List ℕ) → hex (xs ++ ys) ≡ hex xs ++ hex ys
 hex_append [] ys = refl

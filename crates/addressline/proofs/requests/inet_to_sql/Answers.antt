@@ -3,8 +3,8 @@ use Rattle.answers.proofs.Answering.{says, written_is}
 use Rattle.answers.specs.Plain.{wrote, answered}
 use Rattle.inet.specs.Layout.{inet_layout}
 use Rattle.wire.specs.Encoding.{Encoding, room_for}
-use Rattle.replies.proofs.Addresses.{layout_fits}
-use Rattle.replies.proofs.requests.inet_to_sql.Goals as goal
+use Rattle.addressline.proofs.Addresses.{layout_fits}
+use Rattle.addressline.proofs.requests.inet_to_sql.Goals as goal
 
 pub returns : goal.returns
 returns c =

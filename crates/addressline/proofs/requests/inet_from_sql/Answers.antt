@@ -1,8 +1,8 @@
 use Rattle.std.proofs.Common.{◌++◌, vec_items, sym, ap, ◌∙◌}
 use Rattle.inet.specs.Recv.{inet_recv}
-use Rattle.replies.specs.Reply.{inet_answer, address_text}
+use Rattle.addressline.specs.Addresses.{inet_answer, address_text}
 use Rattle.answers.proofs.Answering.{says, on_some}
-use Rattle.replies.proofs.requests.inet_from_sql.Goals as goal
+use Rattle.addressline.proofs.requests.inet_from_sql.Goals as goal
 
 pub returns-in-Ok : goal.returns-in-Ok
 returns-in-Ok c =

@@ -1,0 +1,5 @@
+//! The requests for texts and addresses.
+#![tactic(auto)]
+
+mod address;
+pub mod requests;
