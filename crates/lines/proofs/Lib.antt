@@ -1,0 +1,2 @@
+mod Serving
+mod Taking

@@ -1,0 +1,40 @@
+//! A line protocol: a request in, an answer out.
+ghost use Rattle.std.specs.Prelude.{◌≡◌, ℕ, List, IfOk};
+ghost use Rattle.lines.specs.Reply.{reply_to};
+
+use answers::plain::bad_request;
+use std::alloc::{AllocError, Global};
+use syntax::parse::split_at_first;
+
+// The requests that a line protocol knows, and how long a line may be.
+pub trait Protocol {
+    // A longer line is a bad request.
+    const LONGEST_LINE: usize;
+
+    ghost LONGEST_LINE: { ℕ };
+
+    // The answer to a request by its name and what follows it.
+    ghost named: { List ℕ → List ℕ → List ℕ };
+
+    // The answer to a line that is a word alone.
+    ghost alone: { List ℕ → List ℕ };
+
+    fn answer(heap: Global, name: &[u8], argument: &[u8]) -> Result<Vec<u8>, AllocError>
+        ensures { IfOk result (λ v. v.items ≡ named name.now argument.now) };
+
+    fn answer_alone(heap: Global, word: &[u8]) -> Result<Vec<u8>, AllocError>
+        ensures { IfOk result (λ v. v.items ≡ alone word.now) };
+}
+
+// The answer to the request that a line is; it fails only for want of memory.
+pub fn reply<P: Protocol>(heap: Global, line: &[u8]) -> Result<Vec<u8>, AllocError>
+    ensures { IfOk result (λ v. v.items ≡ reply_to P.LONGEST_LINE P.named P.alone line.now) }
+{
+    if line.len() > P::LONGEST_LINE {
+        return bad_request(heap);
+    }
+    match split_at_first(line, b' ') {
+        Some((name, argument)) => P::answer(heap, name, argument),
+        None => P::answer_alone(heap, line),
+    }
+}
