@@ -1,28 +1,35 @@
 -- How a pile is spelled: a bottom's name, under layers as array(..) and range(..).
 use Rattle.std.specs.Prelude.{ℕ, zero, suc, ◌-◌, cond, List, [], ◌∷◌, ◌++◌, length, take, Some, None, codes, Option, ◌==◌, slice_index}
 use Rattle.std.specs.Option.{option_map}
-use Rattle.std.specs.Str.{bytes_eq}
+use Rattle.naming.specs.Names.{named}
 use Rattle.syntax.specs.Parsed.{split_at}
 use Rattle.checkline.specs.declared.bottom.Bottom.{Bottom}
 use Rattle.checkline.specs.declared.bottom.Bottom.TheVariants.{Int4, Int8, Text, Point, Box, Path, Varbit, Hstore, Inet}
 use Rattle.checkline.specs.declared.layers.Layer.{Layer}
 use Rattle.checkline.specs.declared.layers.Layer.TheVariants.{Array, Range}
 
+abbrev pub bottoms : List (List ℕ × Option Bottom)
+bottoms =
+    (codes "int4", Some Int4)
+    ∷ (codes "int8", Some Int8)
+    ∷ (codes "text", Some Text)
+    ∷ (codes "point", Some Point)
+    ∷ (codes "box", Some Box)
+    ∷ (codes "path", Some Path)
+    ∷ (codes "varbit", Some Varbit)
+    ∷ (codes "hstore", Some Hstore)
+    ∷ (codes "inet", Some Inet)
+    ∷ []
+
 -- the bottom that a word names
 abbrev pub bottom_in : List ℕ → Option Bottom
-bottom_in w =
-    cond (bytes_eq w (codes "int4")) (Some Int4)
-    (cond (bytes_eq w (codes "int8")) (Some Int8)
-    (cond (bytes_eq w (codes "text")) (Some Text)
-    (cond (bytes_eq w (codes "point")) (Some Point)
-    (cond (bytes_eq w (codes "box")) (Some Box)
-    (cond (bytes_eq w (codes "path")) (Some Path)
-    (cond (bytes_eq w (codes "varbit")) (Some Varbit)
-    (cond (bytes_eq w (codes "hstore")) (Some Hstore)
-    (cond (bytes_eq w (codes "inet")) (Some Inet) None))))))))
+bottom_in w = named None bottoms w
+
+abbrev pub layers : List (List ℕ × Option Layer)
+layers = (codes "array", Some Array) ∷ (codes "range", Some Range) ∷ []
 
 abbrev pub layer_in : List ℕ → Option Layer
-layer_in w = cond (bytes_eq w (codes "array")) (Some Array) (cond (bytes_eq w (codes "range")) (Some Range) None)
+layer_in w = named None layers w
 
 -- what stands before a parenthesis that closes a word
 abbrev pub closed : List ℕ → Option (List ℕ)

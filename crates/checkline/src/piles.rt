@@ -24,7 +24,8 @@ pub(crate) fn judge_pile(layers: &[Layer], bottom: Bottom, bytes: &[u8]) -> Resu
 // As many types as there may be layers.
 type Eight = More<More<More<More<More<More<More<More<Zero>>>>>>>>;
 
-// A number of layers, as a type: the type of a pile has to end somewhere.
+// A number of layers, as a type: the type of a pile has to end somewhere. Kept by hand: no recursion is
+// covered yet that makes a `&dyn Validator` of its own, nor a validator that leads back to itself.
 trait Most {
     ghost most: { ℕ };
 

@@ -6,7 +6,7 @@ ghost use Rattle.checkline.specs.Spelled.{bottom_in, layer_in, layer_around, ont
 use crate::bottom::Bottom;
 use crate::layers::Layer;
 use std::alloc::{AllocError, Global};
-use syntax::compare::same;
+use std::str;
 use syntax::parse::split_at_first;
 
 // The greatest number of layers that a request may name.
@@ -56,12 +56,13 @@ fn parse_layer(word: &[u8]) -> Option<(Layer, &[u8])>
 fn layer_named(name: &[u8]) -> Option<Layer>
     ensures { result ≡ layer_in name.now }
 {
-    if same(name, b"array") {
-        Some(Layer::Array)
-    } else if same(name, b"range") {
-        Some(Layer::Range)
-    } else {
-        None
+    let Ok(name) = str::from_utf8(name) else {
+        return None;
+    };
+    match name {
+        "array" => Some(Layer::Array),
+        "range" => Some(Layer::Range),
+        _ => None,
     }
 }
 
@@ -69,25 +70,19 @@ fn layer_named(name: &[u8]) -> Option<Layer>
 fn parse_bottom(word: &[u8]) -> Option<Bottom>
     ensures { result ≡ bottom_in word.now }
 {
-    if same(word, b"int4") {
-        Some(Bottom::Int4)
-    } else if same(word, b"int8") {
-        Some(Bottom::Int8)
-    } else if same(word, b"text") {
-        Some(Bottom::Text)
-    } else if same(word, b"point") {
-        Some(Bottom::Point)
-    } else if same(word, b"box") {
-        Some(Bottom::Box)
-    } else if same(word, b"path") {
-        Some(Bottom::Path)
-    } else if same(word, b"varbit") {
-        Some(Bottom::Varbit)
-    } else if same(word, b"hstore") {
-        Some(Bottom::Hstore)
-    } else if same(word, b"inet") {
-        Some(Bottom::Inet)
-    } else {
-        None
+    let Ok(word) = str::from_utf8(word) else {
+        return None;
+    };
+    match word {
+        "int4" => Some(Bottom::Int4),
+        "int8" => Some(Bottom::Int8),
+        "text" => Some(Bottom::Text),
+        "point" => Some(Bottom::Point),
+        "box" => Some(Bottom::Box),
+        "path" => Some(Bottom::Path),
+        "varbit" => Some(Bottom::Varbit),
+        "hstore" => Some(Bottom::Hstore),
+        "inet" => Some(Bottom::Inet),
+        _ => None,
     }
 }
