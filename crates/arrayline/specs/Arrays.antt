@@ -7,8 +7,8 @@ use Rattle.array.specs.Encoding.{array_encoding}
 use Rattle.array.specs.Recv.{Opened, read_dimension, at_dimensions, at_values}
 use Rattle.fault.specs.declared.Fault.{Fault}
 use Rattle.items.specs.Spelled.{item_in}
-use Rattle.notation.specs.Lists.{list_in}
-use Rattle.notation.specs.Words.{signed_in}
+use Rattle.listing.specs.Lists.{list_in}
+use Rattle.listing.specs.Words.{signed_in}
 use Rattle.syntax.specs.Parsed.{number_in, split_at}
 use Rattle.wire.specs.Cursor.{read_nullable}
 use Rattle.wire.specs.Encoding.{room_for}

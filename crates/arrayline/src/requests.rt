@@ -4,7 +4,7 @@ ghost use Rattle.answers.specs.Plain.{answered};
 ghost use Rattle.array.specs.Recv.{array_recv};
 ghost use Rattle.arrayview.specs.Views.{opened};
 ghost use Rattle.items.specs.Spelled.{item_in};
-ghost use Rattle.notation.specs.Lists.{list_in};
+ghost use Rattle.listing.specs.Lists.{list_in};
 ghost use Rattle.syntax.specs.Parsed.{bytes_in, number_in};
 ghost use Rattle.arrayline.specs.Arrays.{array_text, array_answer, array_written, dimension_in, written};
 
@@ -17,7 +17,7 @@ use arrayview::dimensions::Dimensions;
 use arrayview::read::Array;
 use arrayview::values::Values;
 use items::parse::parse_items;
-use notation::list::parse_list;
+use listing::list::parse_list;
 use std::alloc::{AllocError, Global};
 use syntax::parse::{parse_bytes, parse_number, split_at_first};
 use syntax::print::push_decimal;

@@ -2,8 +2,8 @@
 ghost use Rattle.arrayline.specs.Arrays.{dimension_in};
 
 use array::dimension::ArrayDimension;
-use notation::list::Notation;
-use notation::words::parse_int4;
+use listing::list::Notation;
+use listing::words::parse_int4;
 use syntax::parse::split_at_first;
 
 // LENGTH:LOWER

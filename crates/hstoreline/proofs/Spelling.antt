@@ -1,8 +1,8 @@
 -- The entries that words spell, taken off one by one.
 use Rattle.std.proofs.Common.{◌≡◌, ℕ, List, [], ◌∷◌, ◌++◌, Some, None, Option, sym, refl, ap, ◌∙◌}
 use Rattle.hstore.specs.declared.entry.HstoreEntry.{HstoreEntry}
-use Rattle.notation.proofs.Fields.{read_more, read_last}
-use Rattle.notation.specs.Lists.{in_front, all_in, fields}
+use Rattle.listing.proofs.Fields.{read_more, read_last}
+use Rattle.listing.specs.Lists.{in_front, all_in, fields}
 use Rattle.syntax.specs.Parsed.{split_at}
 use Rattle.hstoreline.specs.Hstores.{Entries, and_entry, entry_onto, with_words}
 

@@ -8,7 +8,7 @@ use Rattle.hstore.specs.declared.entry.HstoreEntry.{HstoreEntry}
 use Rattle.hstore.specs.Encoding.{hstore_encoding}
 use Rattle.hstore.specs.Layout.{Entry}
 use Rattle.hstore.specs.Recv.{read_entry}
-use Rattle.notation.specs.Lists.{fields, bracketed}
+use Rattle.listing.specs.Lists.{fields, bracketed}
 use Rattle.syntax.specs.Parsed.{bytes_in, split_at}
 use Rattle.syntax.specs.Printed.{byte_string}
 use Rattle.texts.specs.declared.place.Place.{Place}

@@ -1,7 +1,7 @@
 //! Reading the items that a request spells.
 ghost use Rattle.std.specs.Prelude.{◌≡◌, map, IfOk};
 ghost use Rattle.std.specs.Option.{option_map};
-ghost use Rattle.notation.specs.Lists.{inner_in, list_in};
+ghost use Rattle.listing.specs.Lists.{inner_in, list_in};
 ghost use Rattle.items.specs.Slots.{slot_item};
 ghost use Rattle.items.specs.Spelled.{fault_in, item_in};
 

@@ -1,21 +1,15 @@
 -- Items as they are printed, one by one.
-use Rattle.std.proofs.Common.{◌≡◌, ℕ, ◌+◌, ◌<◌, ◌≤◌, List, [], ◌∷◌, ◌++◌, map, length, take, IfOk, Some, Ok, Err, codes, Result, sym, refl, ap, ◌∙◌, arith}
+use Rattle.std.proofs.Common.{◌≡◌, ℕ, ◌+◌, ◌<◌, ◌≤◌, List, [], ◌∷◌, ◌++◌, map, length, take, Some, Ok, Err, codes, sym, refl, ap, ◌∙◌, arith}
 use Rattle.std.proofs.lemmas.List.{append_assoc, append-nil, drop_all, length-map, length-take, map_more, take_all}
-use Rattle.std.proofs.lemmas.Result.{IfOk-weaker}
 use Rattle.fault.specs.declared.Rule.TheVariants.{Missing}
 use Rattle.fault.specs.Faults.{fault}
 use Rattle.wire.specs.Items.{Item, size_of, fitting, filled}
 use Rattle.wire.proofs.Fitting.{item_fits}
 use Rattle.serializer.specs.Lists.{item_at}
 use Rattle.serializer.proofs.Items.{item_payload}
+use Rattle.answers.specs.Plain.{commas}
 use Rattle.syntax.specs.Printed.{byte_string}
 use Rattle.listing.specs.Answers.{item_text, items_text}
-use Rattle.listing.specs.Lists.{commas}
-
--- a text behind its mark
-pub marked : {X Y : Type 0} (r : Result X Y) (mark : ℕ) (out before after text : List ℕ) → before ≡ out ++ (mark ∷ []) → IfOk r (λ _. after ≡ before ++ text) → IfOk r (λ _. after ≡ out ++ (mark ∷ text))
-marked r mark out before after text e =
-    IfOk-weaker r (λ _. after ≡ before ++ text) (λ _. after ≡ out ++ (mark ∷ text)) (λ _ p. p ∙ ap (λ l. l ++ text) e ∙ append_assoc out (mark ∷ []) text)
 
 -- a part as long as the payload holds the payload
 pub payload_text : (i : Item) (n : ℕ) (part after : List ℕ) → size_of i ≡ Ok (Some n) → length part ≡ n → after ≡ filled (fitting (length part) i) part → byte_string after ≡ item_text i

@@ -1,5 +1,5 @@
 -- Lists in a line: [a,b,c], or [] for none.
-use Rattle.std.specs.Prelude.{ℕ, ◌-◌, cond, ◌&&◌, List, [], ◌∷◌, ◌++◌, length, take, drop, Some, None, Option, ◌==◌, nat_le, slice_index}
+use Rattle.std.specs.Prelude.{ℕ, ◌-◌, cond, ◌&&◌, List, [], ◌∷◌, length, take, drop, Some, None, Option, ◌==◌, nat_le, slice_index}
 
 -- one more byte of the first word
 abbrev pub onto : ℕ → List (List ℕ) → List (List ℕ)
@@ -36,12 +36,3 @@ listed read None = None
 
 abbrev pub list_in : {X : Type 0} → (List ℕ → Option X) → List ℕ → Option (List X)
 list_in read cs = listed read (bracketed cs)
-
--- texts with a comma between each two
-abbrev pub commas : List (List ℕ) → List ℕ
-commas [] = []
-commas (t ∷ []) = t
-commas (t ∷ u ∷ ts) = t ++ (44 ∷ commas (u ∷ ts))
-
-abbrev pub list_text : List (List ℕ) → List ℕ
-list_text ts = 91 ∷ (commas ts ++ (93 ∷ []))

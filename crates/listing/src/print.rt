@@ -1,13 +1,11 @@
 //! Printing items.
-ghost use Rattle.std.specs.Prelude.{◌≡◌, ◌++◌, IfOk, Err, OnOk};
+ghost use Rattle.std.specs.Prelude.{◌≡◌, ◌++◌, IfOk, OnOk};
 ghost use Rattle.serializer.specs.Lists.{item_at};
-ghost use Rattle.syntax.specs.Printed.{byte_string};
 ghost use Rattle.listing.specs.Answers.{item_text, items_text};
 
-use fault::Fault;
+use answers::plain::{push_bytes, push_failure};
 use serializer::serializer::Serializer;
 use std::alloc::{AllocError, Global};
-use syntax::print::{push_fault, push_hex};
 
 // The items of a serializer, each written out by it.
 pub fn print_items<S: Serializer>(heap: Global, serializer: &S) -> Result<Vec<u8>, AllocError>
@@ -40,23 +38,7 @@ fn push_item<S: Serializer>(
     };
     let mut payload = vec![in heap; 0; length]?;
     match serializer.write(k, &mut payload) {
-        Ok(_) => push_payload(out, &payload),
+        Ok(_) => push_bytes(out, &payload),
         Err(fault) => push_failure(out, fault),
     }
-}
-
-// A payload, as a byte string.
-fn push_payload(out: &mut Vec<u8>, bytes: &[u8]) -> Result<(), AllocError>
-    ensures { OnOk result (out.new.items ≡ out.old.items ++ byte_string bytes.now) }
-{
-    out.push(b'x')?;
-    push_hex(out, bytes)
-}
-
-// An item that is a fault.
-fn push_failure(out: &mut Vec<u8>, fault: Fault) -> Result<(), AllocError>
-    ensures { OnOk result (out.new.items ≡ out.old.items ++ item_text (Err fault)) }
-{
-    out.push(b'!')?;
-    push_fault(out, fault)
 }

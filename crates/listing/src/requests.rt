@@ -2,18 +2,19 @@
 ghost use Rattle.std.specs.Prelude.{◌≡◌, IfOk};
 ghost use Rattle.serializer.specs.Runs.{run_items};
 ghost use Rattle.syntax.specs.Parsed.{bytes_in, split_at};
-ghost use Rattle.listing.specs.Answers.{bad, on_elements, on_places, element_list_answer, texts_answer};
+ghost use Rattle.listing.specs.Answers.{on_elements, on_places, element_list_answer, texts_answer};
 ghost use Rattle.listing.specs.Lists.{list_in};
 ghost use Rattle.listing.specs.Words.{place_in};
 
-use crate::list::{FromWord, parse_list};
+use crate::list::{Notation, parse_list};
 use crate::print::print_items;
+use crate::words::{Int4Notation, Int8Notation, PlaceNotation};
+use answers::plain::bad_request;
 use element::element::Element;
 use serializer::elements::ElementList;
 use std::alloc::{AllocError, Global};
 use syntax::compare::same;
 use syntax::parse::{parse_bytes, split_at_first};
-use texts::place::Place;
 use texts::pools::Pools;
 use texts::texts::Texts;
 
@@ -25,19 +26,22 @@ pub fn element_list(heap: Global, argument: &[u8]) -> Result<Vec<u8>, AllocError
         return bad_request(heap);
     };
     if same(kind, b"int4") {
-        print_elements::<Option<i32>>(heap, list)
+        print_elements::<Option<i32>, Int4Notation>(heap, list)
     } else if same(kind, b"int8") {
-        print_elements::<Option<i64>>(heap, list)
+        print_elements::<Option<i64>, Int8Notation>(heap, list)
     } else {
         bad_request(heap)
     }
 }
 
 // The items of a list of elements.
-fn print_elements<T: Element + FromWord>(heap: Global, list: &[u8]) -> Result<Vec<u8>, AllocError>
-    ensures { IfOk result (λ v. v.items ≡ on_elements (run_items T.Element.value) (list_in T.FromWord.reads list.now)) }
+fn print_elements<T: Element, N: Notation<Item = T>>(
+    heap: Global,
+    list: &[u8],
+) -> Result<Vec<u8>, AllocError>
+    ensures { IfOk result (λ v. v.items ≡ on_elements (run_items T.Element.value) (list_in N.Notation.reads list.now)) }
 {
-    let Some(run) = parse_list::<T>(heap, list)? else {
+    let Some(run) = parse_list::<N>(heap, list)? else {
         return bad_request(heap);
     };
     print_items(heap, &ElementList::new(&run))
@@ -71,15 +75,8 @@ fn print_texts(
     let Some(supplier) = parse_bytes(heap, supplier)? else {
         return bad_request(heap);
     };
-    let Some(places) = parse_list::<Place>(heap, list)? else {
+    let Some(places) = parse_list::<PlaceNotation>(heap, list)? else {
         return bad_request(heap);
     };
     print_items(heap, &Texts::new(Pools::new(&house, &supplier), &places))
-}
-
-// An argument that is none.
-fn bad_request(heap: Global) -> Result<Vec<u8>, AllocError>
-    ensures { IfOk result (λ v. v.items ≡ bad) }
-{
-    Vec::from_slice(heap, b"bad request")
 }

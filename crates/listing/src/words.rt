@@ -2,31 +2,48 @@
 ghost use Rattle.std.specs.Prelude.{◌≡◌, ◌^◌, ◌≤◌, Some};
 ghost use Rattle.listing.specs.Words.{negated, element_in, place_in, pool_in, signed_in};
 
-use crate::list::FromWord;
+use crate::list::Notation;
 use syntax::compare::same;
 use syntax::parse::{parse_number, split_at_first};
 use texts::place::{Place, Pool, Span};
 
-impl FromWord for Option<i32> {
+// NULL, or a signed number of four bytes.
+pub struct Int4Notation;
+
+impl Notation for Int4Notation {
+    type Item = Option<i32>;
+
     ghost reads = { element_in 31 };
 
-    fn from_word(word: &[u8]) -> Option<Option<i32>> {
+    fn parse(word: &[u8]) -> Option<Option<i32>> {
         if same(word, b"NULL") {
             return Some(None);
         }
-        Some(Some(parse_signed(word, 31)? as i32))
+        Some(Some(parse_int4(word)?))
     }
 }
 
-impl FromWord for Option<i64> {
+// NULL, or a signed number of eight bytes.
+pub struct Int8Notation;
+
+impl Notation for Int8Notation {
+    type Item = Option<i64>;
+
     ghost reads = { element_in 63 };
 
-    fn from_word(word: &[u8]) -> Option<Option<i64>> {
+    fn parse(word: &[u8]) -> Option<Option<i64>> {
         if same(word, b"NULL") {
             return Some(None);
         }
         Some(Some(parse_signed(word, 63)?))
     }
+}
+
+// A signed number of four bytes.
+pub fn parse_int4(word: &[u8]) -> Option<i32>
+    ensures { result ≡ signed_in 31 word.now }
+{
+    Some(parse_signed(word, 31)? as i32)
 }
 
 // A signed number with so many bits beside its sign.
@@ -48,10 +65,15 @@ fn negate(n: u64) -> i64
     if n == 0 { 0 } else { -1 - (n - 1) as i64 }
 }
 
-impl FromWord for Place {
+// A place of a texts source.
+pub struct PlaceNotation;
+
+impl Notation for PlaceNotation {
+    type Item = Place;
+
     ghost reads = { place_in };
 
-    fn from_word(word: &[u8]) -> Option<Place> {
+    fn parse(word: &[u8]) -> Option<Place> {
         if same(word, b"NULL") {
             return Some(Place::Absent);
         }

@@ -5,7 +5,7 @@ use Rattle.answers.specs.Parts.{texts_of, parts_text}
 use Rattle.answers.specs.Plain.{bad_request, refused, wrote, flag_text, room}
 use Rattle.double.specs.declared.point.Point.{Point}
 use Rattle.fault.specs.declared.Fault.{Fault}
-use Rattle.notation.specs.Lists.{list_in}
+use Rattle.listing.specs.Lists.{list_in}
 use Rattle.path.specs.Layout.{path_encoding}
 use Rattle.path.specs.Recv.{Opened, read_point, at_points}
 use Rattle.shapeline.specs.Words.{point_text, point_in}

@@ -6,7 +6,7 @@ ghost use Rattle.shapeline.specs.Words.{point_text, point_in};
 
 use answers::parts::PartText;
 use double::point::Point;
-use notation::list::Notation;
+use listing::list::Notation;
 use path::points::Points;
 use shapeline::words::{parse_point, push_point};
 use std::alloc::AllocError;

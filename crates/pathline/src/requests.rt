@@ -10,7 +10,7 @@ use crate::points::{PointNotation, PointTexts};
 use answers::parts::push_parts;
 use answers::plain::{bad_request, push_flag, refusal};
 use answers::written::{blank_part, print_written};
-use notation::list::parse_list;
+use listing::list::parse_list;
 use path::points::Points;
 use path::read::Path;
 use std::alloc::{AllocError, Global};

@@ -13,7 +13,7 @@ use Rattle.inet.specs.Layout.{inet_layout}
 use Rattle.inet.specs.Recv.{inet_recv}
 use Rattle.lines.specs.Reply as lines
 use Rattle.naming.specs.Names.{named}
-use Rattle.notation.specs.Answers.{element_list_answer, texts_answer}
+use Rattle.listing.specs.Answers.{element_list_answer, texts_answer}
 use Rattle.path.specs.Recv.{path_recv}
 use Rattle.pathline.specs.Paths.{path_answer, path_written}
 use Rattle.range.specs.Layout.{empty_layout}

@@ -10,7 +10,7 @@ use arrayline::requests::{array_from_sql, array_to_sql};
 use checkline::requests::check;
 use hstoreline::requests::{hstore_from_sql, hstore_to_sql};
 use lines::protocol::Protocol;
-use notation::requests::{element_list, texts};
+use listing::requests::{element_list, texts};
 use pathline::requests::{path_from_sql, path_to_sql};
 use rangeline::requests::{empty_range_to_sql, range_from_sql, range_to_sql};
 use recordline::requests::record_from_sql;

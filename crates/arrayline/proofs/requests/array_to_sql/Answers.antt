@@ -2,7 +2,7 @@ use Rattle.std.proofs.Common.{◌-◌, ◌^◌, length, vec_items, ap, ◌∙◌
 use Rattle.answers.proofs.Answering.{says}
 use Rattle.answers.specs.Plain.{room}
 use Rattle.items.specs.Spelled.{item_in}
-use Rattle.notation.specs.Lists.{list_in}
+use Rattle.listing.specs.Lists.{list_in}
 use Rattle.syntax.specs.Parsed.{number_in}
 use Rattle.arrayline.specs.Arrays.{dimension_in, written, listed_words, typed_words}
 use Rattle.arrayline.proofs.requests.array_to_sql.Goals as goal

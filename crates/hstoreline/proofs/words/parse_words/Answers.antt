@@ -2,7 +2,7 @@ use Rattle.std.proofs.Common.{[], ◌∷◌, Some, None, vec_items, sym, refl, a
 use Rattle.std.proofs.lemmas.Slice.{pushed}
 use Rattle.std.proofs.lemmas.Bool.{cond-false}
 use Rattle.std.specs.Option.{option_map}
-use Rattle.notation.proofs.Fields.{behind_shorter}
+use Rattle.listing.proofs.Fields.{behind_shorter}
 use Rattle.hstoreline.proofs.Spelling.{spelled_on, spelled_more, spelled_broken, spelled_last}
 use Rattle.hstoreline.proofs.words.parse_words.Goals as goal
 

@@ -3,7 +3,7 @@ use Rattle.std.proofs.lemmas.List.{map_push}
 use Rattle.std.proofs.lemmas.Slice.{pushed}
 use Rattle.std.proofs.lemmas.Bool.{cond-false}
 use Rattle.std.specs.Option.{option_map}
-use Rattle.notation.proofs.Fields.{read_on, behind_shorter, read_more, read_broken, read_last}
+use Rattle.listing.proofs.Fields.{read_on, behind_shorter, read_more, read_broken, read_last}
 use Rattle.items.specs.Slots.{slot_item}
 use Rattle.items.specs.Spelled.{item_in}
 use Rattle.items.proofs.parse.parse_slots.Goals as goal

@@ -1,6 +1,6 @@
 use Rattle.std.proofs.Common.{◌≡◌, map, length, vec_items}
-use Rattle.notation.specs.Lists.{all_in, fields}
-use Rattle.notation.proofs.Fields.{read_on}
+use Rattle.listing.specs.Lists.{all_in, fields}
+use Rattle.listing.proofs.Fields.{read_on}
 use Rattle.items.specs.Slots.{slot_item}
 use Rattle.items.specs.Spelled.{item_in}
 use Rattle.items.proofs.parse.parse_slots.Given as goal

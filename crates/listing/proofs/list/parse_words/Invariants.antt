@@ -4,7 +4,7 @@ use Rattle.listing.proofs.Fields.{read_on}
 use Rattle.listing.proofs.list.parse_words.Given as goal
 
 abbrev pub invariant-loop-word : goal.invariant-loop-word
-invariant-loop-word g l = read_on g.T.FromWord.reads (vec_items l.items) l.rest ≡ all_in g.T.FromWord.reads (fields 44 l.inner)
+invariant-loop-word g l = read_on g.N.Notation.reads (vec_items l.items) l.rest ≡ all_in g.N.Notation.reads (fields 44 l.inner)
 
 abbrev pub decreases-loop-word : goal.decreases-loop-word
 decreases-loop-word g l = length l.rest

@@ -1,7 +1,7 @@
 use Rattle.std.proofs.Common.{Some, ap, ◌∙◌, arith, w32, w64, SFits, to_z, of_z}
 use Rattle.std.proofs.lemmas.Int.{to_z-of_z}
-use Rattle.notation.proofs.Numbers.{signed_small}
-use Rattle.notation.proofs.words.parse_int4.Goals as goal
+use Rattle.listing.proofs.Numbers.{signed_small}
+use Rattle.listing.proofs.words.parse_int4.Goals as goal
 
 pub returns : goal.returns
 returns c =

@@ -1,3 +1,0 @@
-pub mod Answers
-pub mod Lists
-pub mod Words
