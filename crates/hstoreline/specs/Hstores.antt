@@ -1,5 +1,5 @@
 -- The requests that read and write an hstore.
-use Rattle.std.specs.Prelude.{ℕ, cond, List, [], ◌∷◌, ◌++◌, length, Some, None, Ok, Err, codes, Option, Result, ◌==◌}
+use Rattle.std.specs.Prelude.{ℕ, cond, List, [], ◌∷◌, ◌++◌, length, Some, None, Ok, Err, codes, Option, Result}
 use Rattle.std.specs.Str.{bytes_eq}
 use Rattle.answers.specs.Parts.{texts_of, parts_text}
 use Rattle.answers.specs.Plain.{answered, refused, wrote, value_text, room}
@@ -8,7 +8,7 @@ use Rattle.hstore.specs.declared.entry.HstoreEntry.{HstoreEntry}
 use Rattle.hstore.specs.Encoding.{hstore_encoding}
 use Rattle.hstore.specs.Layout.{Entry}
 use Rattle.hstore.specs.Recv.{read_entry}
-use Rattle.listing.specs.Lists.{fields, bracketed}
+use Rattle.listing.specs.Lists.{list_onto}
 use Rattle.syntax.specs.Parsed.{bytes_in, split_at}
 use Rattle.syntax.specs.Printed.{byte_string}
 use Rattle.texts.specs.declared.place.Place.{Place}
@@ -63,26 +63,13 @@ abbrev pub and_entry : List HstoreEntry → Option (List ℕ × HstoreEntry) →
 and_entry es (Some p) = Some (p.0, es ++ (p.1 ∷ []))
 and_entry es None = None
 
-abbrev pub with_word : Option Entries → List ℕ → Option Entries
-with_word (Some p) w = and_entry p.1 (entry_onto p.0 w)
-with_word None w = None
-
--- word after word
-abbrev pub with_words : Option Entries → List (List ℕ) → Option Entries
-with_words o [] = o
-with_words o (w ∷ ws) = with_words (with_word o w) ws
-
--- nothing between the brackets is no word at all
-abbrev pub inner_entries : List ℕ → Option Entries
-inner_entries cs = cond (length cs == 0) (Some ([], [])) (with_words (Some ([], [])) (fields 44 cs))
-
-abbrev pub listed_entries : Option (List ℕ) → Option Entries
-listed_entries (Some cs) = inner_entries cs
-listed_entries None = None
+-- the entry that a word spells goes behind the others
+abbrev pub with_entry : Entries → List ℕ → Option Entries
+with_entry p w = and_entry p.1 (entry_onto p.0 w)
 
 -- the entries that [KEY=VALUE,..] spells, with their texts in the order of the list
 abbrev pub entries_in : List ℕ → Option Entries
-entries_in w = listed_entries (bracketed w)
+entries_in w = list_onto with_entry ([], []) w
 
 -- what the encoder writes to a part of so many bytes: the supplier pool is empty
 abbrev pub written : ℕ → Entries → List ℕ

@@ -1,9 +1,10 @@
 //! The entries that a request spells.
 ghost use Rattle.std.specs.Prelude.{◌≡◌, IfOk};
 ghost use Rattle.std.specs.Option.{option_map};
-ghost use Rattle.hstoreline.specs.Hstores.{text_onto, entry_onto, inner_entries, entries_in};
+ghost use Rattle.hstoreline.specs.Hstores.{Entries, text_onto, entry_onto, with_entry, entries_in};
 
 use hstore::entry::HstoreEntry;
+use listing::list::{Words, read_list};
 use std::alloc::{AllocError, Global};
 use syntax::compare::same;
 use syntax::parse::{parse_bytes, split_at_first};
@@ -16,39 +17,33 @@ pub struct EntryList {
     pub entries: Vec<HstoreEntry>,
 }
 
+impl Words for EntryList {
+    ghost Held = { Entries };
+
+    ghost held = { λ l. (l.house.items, l.entries.items) };
+
+    ghost with = { with_entry };
+
+    fn take(&mut self, heap: Global, word: &[u8]) -> Result<bool, AllocError> {
+        match parse_entry(heap, &mut self.house, word)? {
+            Some(entry) => {
+                self.entries.push(entry)?;
+                Ok(true)
+            }
+            None => Ok(false),
+        }
+    }
+}
+
 // The entries that a list spells, none where it is no list of entries.
 pub fn parse_entries(heap: Global, word: &[u8]) -> Result<Option<EntryList>, AllocError>
     ensures { IfOk result (λ o. option_map (λ l. (l.house.items, l.entries.items)) o ≡ entries_in word.now) }
 {
-    let n = word.len();
-    if n < 2 || word[0] != b'[' || word[n - 1] != b']' {
-        return Ok(None);
-    }
-    parse_words(heap, &word[1..n - 1])
-}
-
-// The entries between commas; nothing is no entry at all.
-fn parse_words(heap: Global, inner: &[u8]) -> Result<Option<EntryList>, AllocError>
-    ensures { IfOk result (λ o. option_map (λ l. (l.house.items, l.entries.items)) o ≡ inner_entries inner.now) }
-{
-    let mut house = Vec::new(heap);
-    let mut entries = Vec::new(heap);
-    if inner.is_empty() {
-        return Ok(Some(EntryList { house, entries }));
-    }
-    let mut rest = inner;
-    while let Some((word, behind)) = split_at_first(rest, b',') {
-        match parse_entry(heap, &mut house, word)? {
-            Some(entry) => entries.push(entry)?,
-            None => return Ok(None),
-        }
-        rest = behind;
-    }
-    match parse_entry(heap, &mut house, rest)? {
-        Some(entry) => entries.push(entry)?,
-        None => return Ok(None),
-    }
-    Ok(Some(EntryList { house, entries }))
+    let mut list = EntryList {
+        house: Vec::new(heap),
+        entries: Vec::new(heap),
+    };
+    Ok(read_list(heap, word, &mut list)?.then_some(list))
 }
 
 // The entry that KEY=VALUE spells; the key goes to the pool before the value.

@@ -1,10 +1,53 @@
 //! Lists of words.
 ghost use Rattle.std.specs.Prelude.{◌≡◌, ℕ, List, IfOk, vec_items, Option};
+ghost use Rattle.std.specs.Bool.{then_some};
 ghost use Rattle.std.specs.Option.{option_map};
-ghost use Rattle.listing.specs.Lists.{inner_in, list_in};
+ghost use Rattle.listing.specs.Lists.{list_in, list_onto, inner_onto, with_read};
 
 use std::alloc::{AllocError, Global};
 use syntax::parse::split_at_first;
+
+// What takes in the words of a list, one after another.
+pub trait Words {
+    // What it holds, as its meaning.
+    ghost Held: { Type 0 };
+
+    ghost held: { Self → Held };
+
+    // What it holds once a word is taken in too, none where that is no word of its kind.
+    ghost with: { Held → List ℕ → Option Held };
+
+    // Takes in a word; answers whether it is one of its kind.
+    fn take(&mut self, heap: Global, word: &[u8]) -> Result<bool, AllocError>
+        ensures { IfOk result (λ b. then_some b (held self.new) ≡ with (held self.old) word.now) };
+}
+
+// Takes in each word of a list; answers whether it is a list of such words.
+pub fn read_list<W: Words>(heap: Global, list: &[u8], words: &mut W) -> Result<bool, AllocError>
+    ensures { IfOk result (λ b. then_some b (W.held words.new) ≡ list_onto W.with (W.held words.old) list.now) }
+{
+    match list {
+        [b'[', inner @ .., b']'] => read_words(heap, inner, words),
+        _ => Ok(false),
+    }
+}
+
+// Takes in the words between commas; nothing is no word at all.
+fn read_words<W: Words>(heap: Global, inner: &[u8], words: &mut W) -> Result<bool, AllocError>
+    ensures { IfOk result (λ b. then_some b (W.held words.new) ≡ inner_onto W.with (W.held words.old) inner.now) }
+{
+    if inner.is_empty() {
+        return Ok(true);
+    }
+    let mut rest = inner;
+    while let Some((word, behind)) = split_at_first(rest, b',') {
+        if !words.take(heap, word)? {
+            return Ok(false);
+        }
+        rest = behind;
+    }
+    words.take(heap, rest)
+}
 
 // How items of a kind are written as words.
 pub trait Notation {
@@ -17,6 +60,30 @@ pub trait Notation {
         ensures { result ≡ reads word.now };
 }
 
+// The items that words are, in their order.
+#[derive(Drop)]
+struct ItemWords<N: Notation> {
+    items: Vec<N::Item>,
+}
+
+impl<N: Notation> Words for ItemWords<N> {
+    ghost Held = { List N.Item };
+
+    ghost held = { λ l. l.items.items };
+
+    ghost with = { with_read N.reads };
+
+    fn take(&mut self, heap: Global, word: &[u8]) -> Result<bool, AllocError> {
+        match N::parse(word) {
+            Some(item) => {
+                self.items.push(item)?;
+                Ok(true)
+            }
+            None => Ok(false),
+        }
+    }
+}
+
 // The list that a word is, none where it is no list of such words.
 pub fn parse_list<N: Notation>(
     heap: Global,
@@ -24,32 +91,8 @@ pub fn parse_list<N: Notation>(
 ) -> Result<Option<Vec<N::Item>>, AllocError>
     ensures { IfOk result (λ o. option_map vec_items o ≡ list_in N.Notation.reads word.now) }
 {
-    let n = word.len();
-    if n < 2 || word[0] != b'[' || word[n - 1] != b']' {
-        return Ok(None);
-    }
-    parse_words::<N>(heap, &word[1..n - 1])
-}
-
-// What the words between commas are; nothing is no word at all.
-fn parse_words<N: Notation>(heap: Global, inner: &[u8]) -> Result<Option<Vec<N::Item>>, AllocError>
-    ensures { IfOk result (λ o. option_map vec_items o ≡ inner_in N.Notation.reads inner.now) }
-{
-    let mut items = Vec::new(heap);
-    if inner.is_empty() {
-        return Ok(Some(items));
-    }
-    let mut rest = inner;
-    while let Some((word, behind)) = split_at_first(rest, b',') {
-        match N::parse(word) {
-            Some(item) => items.push(item)?,
-            None => return Ok(None),
-        }
-        rest = behind;
-    }
-    match N::parse(rest) {
-        Some(item) => items.push(item)?,
-        None => return Ok(None),
-    }
-    Ok(Some(items))
+    let mut list = ItemWords::<N> {
+        items: Vec::new(heap),
+    };
+    Ok(read_list(heap, word, &mut list)?.then_some(list.items))
 }
