@@ -13,7 +13,6 @@ use answers::plain::bad_request;
 use element::element::Element;
 use serializer::elements::ElementList;
 use std::alloc::{AllocError, Global};
-use syntax::compare::same;
 use syntax::parse::{parse_bytes, split_at_first};
 use texts::pools::Pools;
 use texts::texts::Texts;
@@ -22,24 +21,18 @@ use texts::texts::Texts;
 pub fn element_list(heap: Global, argument: &[u8]) -> Result<Vec<u8>, AllocError>
     ensures { IfOk result (λ v. v.items ≡ element_list_answer (split_at 32 argument.now)) }
 {
-    let Some((kind, list)) = split_at_first(argument, b' ') else {
-        return bad_request(heap);
-    };
-    if same(kind, b"int4") {
-        print_elements::<Option<i32>, Int4Notation>(heap, list)
-    } else if same(kind, b"int8") {
-        print_elements::<Option<i64>, Int8Notation>(heap, list)
-    } else {
-        bad_request(heap)
+    match split_at_first(argument, b' ') {
+        Some((b"int4", list)) => print_elements::<Int4Notation>(heap, list),
+        Some((b"int8", list)) => print_elements::<Int8Notation>(heap, list),
+        _ => bad_request(heap),
     }
 }
 
 // The items of a list of elements.
-fn print_elements<T: Element, N: Notation<Item = T>>(
-    heap: Global,
-    list: &[u8],
-) -> Result<Vec<u8>, AllocError>
-    ensures { IfOk result (λ v. v.items ≡ on_elements (run_items T.Element.value) (list_in N.Notation.reads list.now)) }
+fn print_elements<N: Notation>(heap: Global, list: &[u8]) -> Result<Vec<u8>, AllocError>
+where
+    N::Item: Element,
+    ensures { IfOk result (λ v. v.items ≡ on_elements (run_items N.Item.value) (list_in N.Notation.reads list.now)) }
 {
     let Some(run) = parse_list::<N>(heap, list)? else {
         return bad_request(heap);

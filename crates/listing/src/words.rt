@@ -1,9 +1,11 @@
 //! The words that stand in lists.
 ghost use Rattle.std.specs.Prelude.{◌≡◌, ◌^◌, ◌≤◌, Some};
-ghost use Rattle.listing.specs.Words.{negated, element_in, place_in, pool_in, signed_in};
+ghost use Rattle.std.specs.Option.{option_map};
+ghost use Rattle.syntax.specs.Parsed.{split_at};
+ghost use Rattle.texts.specs.declared.place.Place.TheVariants.{At};
+ghost use Rattle.listing.specs.Words.{negated, element_in, parts_in, place_in, pool_in, signed_in};
 
 use crate::list::Notation;
-use syntax::compare::same;
 use syntax::parse::{parse_number, split_at_first};
 use texts::place::{Place, Pool, Span};
 
@@ -16,10 +18,10 @@ impl Notation for Int4Notation {
     ghost reads = { element_in 31 };
 
     fn parse(word: &[u8]) -> Option<Option<i32>> {
-        if same(word, b"NULL") {
-            return Some(None);
+        match word {
+            b"NULL" => Some(None),
+            _ => parse_int4(word).map(Some),
         }
-        Some(Some(parse_int4(word)?))
     }
 }
 
@@ -32,10 +34,10 @@ impl Notation for Int8Notation {
     ghost reads = { element_in 63 };
 
     fn parse(word: &[u8]) -> Option<Option<i64>> {
-        if same(word, b"NULL") {
-            return Some(None);
+        match word {
+            b"NULL" => Some(None),
+            _ => parse_signed(word, 63).map(Some),
         }
-        Some(Some(parse_signed(word, 63)?))
     }
 }
 
@@ -74,28 +76,33 @@ impl Notation for PlaceNotation {
     ghost reads = { place_in };
 
     fn parse(word: &[u8]) -> Option<Place> {
-        if same(word, b"NULL") {
-            return Some(Place::Absent);
+        match word {
+            b"NULL" => Some(Place::Absent),
+            _ => parse_span(word).map(Place::At),
         }
-        let (pool, span) = split_at_first(word, b':')?;
-        let (start, length) = split_at_first(span, b':')?;
-        Some(Place::At(Span {
-            pool: parse_pool(pool)?,
-            start: parse_number(start, u64::MAX)? as usize,
-            length: parse_number(length, u64::MAX)? as usize,
-        }))
     }
+}
+
+// POOL:START:LENGTH
+fn parse_span(word: &[u8]) -> Option<Span>
+    ensures { option_map At result ≡ parts_in (split_at 58 word.now) }
+{
+    let (pool, span) = split_at_first(word, b':')?;
+    let (start, length) = split_at_first(span, b':')?;
+    Some(Span {
+        pool: parse_pool(pool)?,
+        start: parse_number(start, u64::MAX)? as usize,
+        length: parse_number(length, u64::MAX)? as usize,
+    })
 }
 
 // The pool of a letter.
 fn parse_pool(word: &[u8]) -> Option<Pool>
     ensures { result ≡ pool_in word.now }
 {
-    if same(word, b"h") {
-        Some(Pool::House)
-    } else if same(word, b"s") {
-        Some(Pool::Supplier)
-    } else {
-        None
+    match word {
+        b"h" => Some(Pool::House),
+        b"s" => Some(Pool::Supplier),
+        _ => None,
     }
 }
