@@ -1,6 +1,7 @@
 //! Items in a row.
-ghost use Rattle.std.specs.Prelude.{◌≡◌, map, length};
-ghost use Rattle.wire.specs.Items.{size_of, null_of, fitting, filled};
+ghost use Rattle.std.specs.Prelude.{◌≡◌, map};
+ghost use Rattle.serializer.specs.Lists.{item_at};
+ghost use Rattle.wire.specs.Words.{seen};
 ghost use Rattle.items.specs.Slots.{slot_item, slots_short};
 
 use crate::slot::Slot;
@@ -15,6 +16,27 @@ pub struct ItemList {
     pub slots: Vec<Slot>,
 }
 
+impl ItemList {
+    // Item k: rule 10 at k where there is no such item, else what is spelled there.
+    fn item(&self, k: usize) -> Result<Option<&[u8]>, Fault>
+        ensures { seen result ≡ item_at (map slot_item self.now.slots.items) k }
+    {
+        payload(self.slots.get(k).ok_or(Fault::new(Rule::Missing, k))?)
+    }
+}
+
+// What is spelled, where a length word holds the length of its payload.
+fn payload(slot: &Slot) -> Result<Option<&[u8]>, Fault>
+    ensures { seen result ≡ slot_item slot.now }
+{
+    match slot {
+        Ok(Some(bytes)) if bytes.len() > 2147483647 => Err(Fault::new(Rule::TooGreat, 0)),
+        Ok(Some(bytes)) => Ok(Some(bytes)),
+        Ok(None) => Ok(None),
+        Err(fault) => Err(*fault),
+    }
+}
+
 impl Serializer for ItemList {
     ghost items = { λ l. map slot_item l.slots.items };
 
@@ -25,50 +47,16 @@ impl Serializer for ItemList {
     }
 
     fn size(&self, k: usize) -> Result<Option<usize>, Fault> {
-        match self.slots.get(k) {
-            None => Err(Fault::new(Rule::Missing, k)),
-            Some(slot) => slot_size(slot),
-        }
+        Ok(self.item(k)?.map(|bytes| bytes.len()))
     }
 
     fn write(&self, k: usize, part: &mut [u8]) -> Result<IsNull, Fault> {
-        match self.slots.get(k) {
-            None => Err(Fault::new(Rule::Missing, k)),
-            Some(slot) => write_slot(slot, part),
-        }
-    }
-}
-
-// The length of an item, none for NULL.
-fn slot_size(slot: &Slot) -> Result<Option<usize>, Fault>
-    ensures { result ≡ size_of (slot_item slot.now) }
-{
-    match slot {
-        Slot::Null => Ok(None),
-        Slot::Payload(bytes) => {
-            if bytes.len() > 2147483647 {
-                return Err(Fault::new(Rule::TooGreat, 0));
+        match self.item(k)? {
+            Some(bytes) => {
+                put_bytes(part, 0, bytes)?;
+                Ok(IsNull::No)
             }
-            Ok(Some(bytes.len()))
+            None => Ok(IsNull::Yes),
         }
-        Slot::Failed(fault) => Err(*fault),
-    }
-}
-
-// Writes an item to the start of the part.
-fn write_slot(slot: &Slot, part: &mut [u8]) -> Result<IsNull, Fault>
-    ensures answer { result ≡ null_of (fitting (length part.old) (slot_item slot.now)) }
-    ensures after { part.new ≡ filled (fitting (length part.old) (slot_item slot.now)) part.old }
-{
-    match slot {
-        Slot::Null => Ok(IsNull::Yes),
-        Slot::Payload(bytes) => {
-            if bytes.len() > 2147483647 {
-                return Err(Fault::new(Rule::TooGreat, 0));
-            }
-            put_bytes(part, 0, bytes.as_slice())?;
-            Ok(IsNull::No)
-        }
-        Slot::Failed(fault) => Err(*fault),
     }
 }

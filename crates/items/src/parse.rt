@@ -11,7 +11,6 @@ use crate::slot::Slot;
 use fault::{Fault, Foreign, Rule};
 use listing::list::{Words, read_list};
 use std::alloc::{AllocError, Global};
-use syntax::compare::same;
 use syntax::parse::{parse_bytes, parse_number, split_at_first};
 
 impl Words for ItemList {
@@ -46,18 +45,10 @@ pub fn parse_items(heap: Global, word: &[u8]) -> Result<Option<ItemList>, AllocE
 pub fn parse_slot(heap: Global, word: &[u8]) -> Result<Option<Slot>, AllocError>
     ensures { IfOk result (λ o. option_map slot_item o ≡ item_in word.now) }
 {
-    if same(word, b"NULL") {
-        return Ok(Some(Slot::Null));
-    }
-    if let [b'!', text @ ..] = word {
-        return match parse_fault(text) {
-            Some(fault) => Ok(Some(Slot::Failed(fault))),
-            None => Ok(None),
-        };
-    }
-    match parse_bytes(heap, word)? {
-        Some(bytes) => Ok(Some(Slot::Payload(bytes))),
-        None => Ok(None),
+    match word {
+        b"NULL" => Ok(Some(Ok(None))),
+        [b'!', text @ ..] => Ok(parse_fault(text).map(Err)),
+        _ => Ok(parse_bytes(heap, word)?.map(|bytes| Ok(Some(bytes)))),
     }
 }
 
