@@ -6,7 +6,6 @@ ghost use Rattle.hstoreline.specs.Hstores.{Entries, text_onto, entry_onto, with_
 use hstore::entry::HstoreEntry;
 use listing::list::{Words, read_list};
 use std::alloc::{AllocError, Global};
-use syntax::compare::same;
 use syntax::parse::{parse_bytes, split_at_first};
 use texts::place::{Place, Pool, Span};
 
@@ -70,7 +69,7 @@ fn parse_entry(
 fn parse_text(heap: Global, house: &mut Vec<u8>, word: &[u8]) -> Result<Option<Place>, AllocError>
     ensures { IfOk result (λ o. option_map (λ p. (house.new.items, p)) o ≡ text_onto house.old.items word.now) }
 {
-    if same(word, b"NULL") {
+    if let b"NULL" = word {
         return Ok(Some(Place::Absent));
     }
     let Some(text) = parse_bytes(heap, word)? else {
