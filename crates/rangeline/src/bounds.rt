@@ -1,17 +1,18 @@
 //! The bounds of a range as words.
 ghost use Rattle.std.specs.Prelude.{◌≡◌, ℕ, ◌++◌, map, IfOk, OnOk};
 ghost use Rattle.std.specs.Option.{option_map};
+ghost use Rattle.answers.specs.Plain.{seen_value, value_text};
 ghost use Rattle.items.specs.Slots.{slot_item};
 ghost use Rattle.items.specs.Spelled.{item_in};
 ghost use Rattle.range.specs.Recv.{seen_bound};
-ghost use Rattle.rangeline.specs.Ranges.{bound_text, with_item, bound_in};
+ghost use Rattle.syntax.specs.Parsed.{split_at};
+ghost use Rattle.rangeline.specs.Ranges.{bound_text, with_item, bound_of_kind, bound_in};
 
 use answers::plain::push_value;
 use items::parse::parse_slot;
 use items::slot::Slot;
 use range::bound::RangeBound;
 use std::alloc::{AllocError, Global};
-use syntax::compare::same;
 use syntax::parse::split_at_first;
 
 // Prints a bound that was read.
@@ -19,16 +20,18 @@ pub fn push_bound(out: &mut Vec<u8>, bound: RangeBound<Option<&[u8]>>) -> Result
     ensures { OnOk result (out.new.items ≡ out.old.items ++ bound_text (seen_bound bound.entry)) }
 {
     match bound {
-        RangeBound::Inclusive(value) => {
-            out.extend_from_slice(b"inc:")?;
-            push_value(out, value)
-        }
-        RangeBound::Exclusive(value) => {
-            out.extend_from_slice(b"exc:")?;
-            push_value(out, value)
-        }
+        RangeBound::Inclusive(value) => push_bounded(out, b"inc:", value),
+        RangeBound::Exclusive(value) => push_bounded(out, b"exc:", value),
         RangeBound::Unbounded => out.extend_from_slice(b"unb"),
     }
+}
+
+// Prints the bound of a bounded side, its kind and its value.
+fn push_bounded(out: &mut Vec<u8>, kind: &[u8], value: Option<&[u8]>) -> Result<(), AllocError>
+    ensures { OnOk result (out.new.items ≡ out.old.items ++ (kind.now ++ value_text (seen_value value.entry))) }
+{
+    out.extend_from_slice(kind)?;
+    push_value(out, value)
 }
 
 // The bound that a word spells; the item of a bounded side goes behind those that stand already.
@@ -39,25 +42,29 @@ pub fn parse_bound(
 ) -> Result<Option<RangeBound<usize>>, AllocError>
     ensures { IfOk result (λ o. option_map (λ b. (map slot_item slots.new.items, b)) o ≡ bound_in (map slot_item slots.old.items) word.now) }
 {
-    if same(word, b"unb") {
-        return Ok(Some(RangeBound::Unbounded));
+    match word {
+        b"unb" => Ok(Some(RangeBound::Unbounded)),
+        _ => parse_bounded(heap, word, slots),
     }
+}
+
+// The bound of a bounded side, KIND:ITEM.
+fn parse_bounded(
+    heap: Global,
+    word: &[u8],
+    slots: &mut Vec<Slot>,
+) -> Result<Option<RangeBound<usize>>, AllocError>
+    ensures { IfOk result (λ o. option_map (λ b. (map slot_item slots.new.items, b)) o ≡ bound_of_kind (map slot_item slots.old.items) (split_at 58 word.now)) }
+{
     let Some((kind, item)) = split_at_first(word, b':') else {
         return Ok(None);
     };
-    if same(kind, b"inc") {
-        match parse_item(heap, item, slots)? {
-            Some(k) => Ok(Some(RangeBound::Inclusive(k))),
-            None => Ok(None),
-        }
-    } else if same(kind, b"exc") {
-        match parse_item(heap, item, slots)? {
-            Some(k) => Ok(Some(RangeBound::Exclusive(k))),
-            None => Ok(None),
-        }
-    } else {
-        Ok(None)
-    }
+    let item = parse_item(heap, item, slots)?;
+    Ok(match kind {
+        b"inc" => item.map(RangeBound::Inclusive),
+        b"exc" => item.map(RangeBound::Exclusive),
+        _ => None,
+    })
 }
 
 // The number of the item that a word spells, once it stands behind the others.
