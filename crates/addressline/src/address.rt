@@ -10,7 +10,7 @@ use std::alloc::{AllocError, Global};
 use syntax::compare::same;
 use syntax::parse::{parse_hex, parse_number, split_at_first};
 use syntax::print::{push_decimal, push_hex};
-use wire::read::{read_u32, read_u64};
+use wire::word::Word;
 
 // Prints an address and its mask.
 pub fn push_inet(out: &mut Vec<u8>, inet: Inet) -> Result<(), AllocError>
@@ -70,11 +70,11 @@ fn from_octets(name: &[u8], bytes: &[u8]) -> Option<IpAddr>
     ensures { result ≡ address_of name.now bytes.now }
 {
     if same(name, b"v4") && bytes.len() == 4 {
-        return Some(IpAddr::V4(read_u32(bytes, 0).ok()?));
+        return Some(IpAddr::V4(u32::read(bytes, 0).ok()?));
     }
     if same(name, b"v6") && bytes.len() == 16 {
-        let high = read_u64(bytes, 0).ok()?;
-        let low = read_u64(bytes, 8).ok()?;
+        let high = u64::read(bytes, 0).ok()?;
+        let low = u64::read(bytes, 8).ok()?;
         return Some(IpAddr::V6(high, low));
     }
     None

@@ -9,7 +9,7 @@ use Rattle.hstore.specs.Encoding.{keys_there, entry_texts, hstore_encoding}
 use Rattle.hstore.specs.Layout.{Entry, hstore_layout}
 use Rattle.array.specs.Encoding.{counted}
 use Rattle.path.specs.Layout.{path_layout, path_encoding}
-use Rattle.path.proofs.Writes.{length_points}
+use Rattle.geometry.proofs.Points.{length_points}
 use Rattle.std.proofs.lemmas.Bool.{ltb-true}
 use Rattle.texts.specs.Places.{Bytes}
 use Rattle.wire.specs.Encoding.{told}

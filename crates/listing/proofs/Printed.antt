@@ -1,27 +1,12 @@
 -- Items as they are printed, one by one.
-use Rattle.std.proofs.Common.{◌≡◌, ℕ, ◌+◌, ◌<◌, ◌≤◌, List, [], ◌∷◌, ◌++◌, map, length, take, Some, Ok, Err, codes, sym, refl, ap, ◌∙◌, arith}
-use Rattle.std.proofs.lemmas.List.{append_assoc, append-nil, drop_all, length-map, length-take, map_more, take_all}
+use Rattle.std.proofs.Common.{◌≡◌, ℕ, ◌+◌, ◌<◌, ◌≤◌, List, [], ◌∷◌, ◌++◌, map, length, take, Err, codes, sym, refl, ap, ◌∙◌, arith}
+use Rattle.std.proofs.lemmas.List.{append_assoc, length-map, length-take, map_more, take_all}
 use Rattle.fault.specs.declared.Rule.TheVariants.{Missing}
 use Rattle.fault.specs.Faults.{fault}
-use Rattle.wire.specs.Items.{Item, size_of, fitting, filled}
-use Rattle.wire.proofs.Fitting.{item_fits}
+use Rattle.wire.specs.Items.{Item}
 use Rattle.serializer.specs.Lists.{item_at}
-use Rattle.serializer.proofs.Items.{item_payload}
 use Rattle.answers.specs.Plain.{commas}
-use Rattle.syntax.specs.Printed.{byte_string}
 use Rattle.listing.specs.Answers.{item_text, items_text}
-
--- a part as long as the payload holds the payload
-pub payload_text : (i : Item) (n : ℕ) (part after : List ℕ) → size_of i ≡ Ok (Some n) → length part ≡ n → after ≡ filled (fitting (length part) i) part → byte_string after ≡ item_text i
-payload_text i n part after size long wrote =
-    let p = item_payload i n size in
-    let bs = p.0 in
-    ap byte_string
-    (wrote
-    ∙ ap (λ j. filled j part) (item_fits (length part) bs p.1 (omega (arith, p.2)))
-    ∙ ap (λ l. bs ++ l) (drop_all (length bs) part (omega (arith, p.2)))
-    ∙ append-nil bs)
-    ∙ sym (ap item_text p.1)
 
 commas_more : (ts : List (List ℕ)) (t : List ℕ) → 0 < length ts → commas (ts ++ (t ∷ [])) ≡ commas ts ++ (44 ∷ t)
 commas_more [] t h = absurd (omega arith)

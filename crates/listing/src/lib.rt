@@ -1,4 +1,4 @@
-//! Requests with lists: what the items of a serializer are.
+//! Lists of words, and the requests that show the items of a serializer.
 #![tactic(auto)]
 
 pub mod list;

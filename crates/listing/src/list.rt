@@ -22,7 +22,8 @@ pub trait Words {
         ensures { IfOk result (λ b. then_some b (held self.new) ≡ with (held self.old) word.now) };
 }
 
-// Takes in each word of a list; answers whether it is a list of such words.
+// Takes in the words of a list, up to the first that is none of their kind; answers whether it is a
+// list of such words.
 pub fn read_list<W: Words>(heap: Global, list: &[u8], words: &mut W) -> Result<bool, AllocError>
     ensures { IfOk result (λ b. then_some b (W.held words.new) ≡ list_onto W.with (W.held words.old) list.now) }
 {
