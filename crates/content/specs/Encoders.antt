@@ -1,5 +1,5 @@
 -- What is written for each kind of column, or the first broken rule; and serializers of one item.
-use Rattle.std.specs.Prelude.{ℕ, zero, suc, Bool, List, [], ◌∷◌, map, length, None, Ok, Err, slice_index_or}
+use Rattle.std.specs.Prelude.{ℕ, zero, suc, Bool, List, [], ◌∷◌, map, length, Ok, Err, slice_index_or}
 use Rattle.fault.specs.declared.Fault.{Fault}
 use Rattle.array.specs.declared.dimension.ArrayDimension.{ArrayDimension}
 use Rattle.array.specs.Layout.{array_layout}
@@ -17,7 +17,6 @@ use Rattle.varbit.specs.Layout.{varbit_layout}
 use Rattle.wire.specs.Encoding.{Encoding}
 use Rattle.wire.specs.Items.{Item}
 use Rattle.wire.specs.Words.{then}
-use Rattle.rows.specs.Rows.{row_items, rows_short}
 use Rattle.rows.specs.Windows.{above, above_short}
 use Rattle.content.specs.Rules.{few, array_rule, range_bounds, hstore_entries, varbit_rule, inet_rule}
 

@@ -1,5 +1,4 @@
 -- A bound around another value.
-use Rattle.std.specs.Prelude.{ℕ}
 use Rattle.range.specs.declared.bound.RangeBound.{RangeBound}
 use Rattle.range.specs.declared.bound.RangeBound.TheVariants.{Inclusive, Exclusive, Unbounded}
 
