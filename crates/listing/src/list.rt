@@ -40,6 +40,7 @@ fn read_words<W: Words>(heap: Global, inner: &[u8], words: &mut W) -> Result<boo
     if inner.is_empty() {
         return Ok(true);
     }
+    // kept by hand: a `for` over `inner.split(..)` can be given no invariant in generic code
     let mut rest = inner;
     while let Some((word, behind)) = split_at_first(rest, b',') {
         if !words.take(heap, word)? {
