@@ -10,28 +10,32 @@ ghost use Rattle.addressline.specs.Addresses.{text_answer, inet_answer, inet_in}
 use crate::address::{parse_inet, push_inet};
 use answers::plain::{bad_request, refusal};
 use answers::written::print_written;
+use fault::Fault;
+use inet::address::Inet;
+use lines::argument::on_bytes;
 use std::alloc::{AllocError, Global};
-use syntax::parse::parse_bytes;
 
 pub fn text_from_sql(heap: Global, argument: &[u8]) -> Result<Vec<u8>, AllocError>
     ensures { IfOk result (λ v. v.items ≡ answered (λ bs. text_answer (text_recv bs)) (bytes_in argument.now)) }
 {
-    let Some(bytes) = parse_bytes(heap, argument)? else {
-        return bad_request(heap);
-    };
-    match text::text_from_sql(&bytes) {
+    on_bytes(heap, argument, |bytes| match text::text_from_sql(bytes) {
         Ok(_) => Vec::from_slice(heap, b"text ok"),
         Err(fault) => refusal(heap, fault),
-    }
+    })
 }
 
 pub fn inet_from_sql(heap: Global, argument: &[u8]) -> Result<Vec<u8>, AllocError>
     ensures { IfOk result (λ v. v.items ≡ answered (λ bs. inet_answer (inet_recv bs)) (bytes_in argument.now)) }
 {
-    let Some(bytes) = parse_bytes(heap, argument)? else {
-        return bad_request(heap);
-    };
-    match inet::read::inet_from_sql(&bytes) {
+    on_bytes(heap, argument, |bytes| {
+        print_inet(heap, inet::read::inet_from_sql(bytes))
+    })
+}
+
+fn print_inet(heap: Global, read: Result<Inet, Fault>) -> Result<Vec<u8>, AllocError>
+    ensures { IfOk result (λ v. v.items ≡ inet_answer read) }
+{
+    match read {
         Ok(inet) => {
             let mut out = Vec::from_slice(heap, b"inet ")?;
             push_inet(&mut out, inet)?;
