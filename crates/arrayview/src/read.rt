@@ -50,10 +50,8 @@ fn read_product(buf: &[u8], count: usize) -> Result<usize, Fault>
     ensures { result ≡ product_from count buf.now 12 1 }
 {
     let mut product = 1;
-    let mut at = 12;
-    for _ in 0..count {
-        product = read_factor(buf, at, product)?;
-        at += 8;
+    for i in 0..count {
+        product = read_factor(buf, 12 + 8 * i, product)?;
     }
     Ok(product)
 }

@@ -1,10 +1,9 @@
 -- What is written.
-use Rattle.std.specs.Prelude.{◌≡◌, ℕ, ◌-◌, ◌^◌, ◌⊎◌, List, ℤ, pos}
+use Rattle.std.specs.Prelude.{◌≡◌, ℕ, ◌-◌, ◌^◌, ◌⊎◌, List, ℤ, pos, Some}
 use Rattle.array.specs.declared.dimension.ArrayDimension.{ArrayDimension}
 use Rattle.double.specs.declared.point.Point.{Point}
 use Rattle.hstore.specs.declared.entry.HstoreEntry.{HstoreEntry}
-use Rattle.texts.specs.declared.place.Place.{Place}
-use Rattle.texts.specs.declared.place.Place.TheVariants.{At}
+use Rattle.texts.specs.Places.{Place}
 use Rattle.texts.specs.declared.place.Pool.TheVariants.{House}
 use Rattle.wire.specs.Encoding.{Encoding, told, laid}
 use Rattle.cabi.specs.declared.writes.Pair.{Pair}
@@ -19,7 +18,7 @@ abbrev pub point_of : Pair → Point
 point_of p = record { x = p.x; y = p.y }
 
 abbrev pub place_of : ℕ → ℕ → Place
-place_of start length = At (record { pool = House; start = start; length = length })
+place_of start length = Some (record { pool = House; start = start; length = length })
 
 abbrev pub entry_of : Parts → HstoreEntry
 entry_of p = record { key = place_of p.key p.key_length; value = place_of p.value p.value_length }

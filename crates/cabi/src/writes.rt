@@ -143,7 +143,7 @@ fn lay_entry(row: Parts) -> HstoreEntry
 fn place(start: usize, length: usize) -> Place
     ensures { result ≡ place_of start length }
 {
-    Place::At(Span {
+    Some(Span {
         pool: Pool::House,
         start,
         length,

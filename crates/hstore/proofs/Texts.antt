@@ -8,9 +8,7 @@ use Rattle.fault.specs.Faults.{fault}
 use Rattle.text.specs.Recv.{text_end, text_recv}
 use Rattle.text.specs.Utf8.{Text}
 use Rattle.text.proofs.Ends.{end_within, reaches, is_text}
-use Rattle.texts.specs.declared.place.Place.{Place}
-use Rattle.texts.specs.declared.place.Place.TheVariants.{Absent, At}
-use Rattle.texts.specs.Places.{Bytes, looked_up, checked_item, part_item, place_item}
+use Rattle.texts.specs.Places.{Place, Bytes, looked_up, checked_item, part_item, place_item}
 use Rattle.wire.specs.Cursor.{Row, none, one}
 use Rattle.wire.specs.Items.{Within, nullable}
 use Rattle.wire.specs.Words.{Value, then}
@@ -50,10 +48,10 @@ part_told k (Some bs) v e = checked_told k bs v (text_recv bs) refl e
 part_told k None v e = let z : ◌≡◌ {A = ℕ} 0 1 = cc in absurd (omega arith)
 
 place_told : (ps : Bytes) (k : ℕ) (p : Place) (v : Value) → place_item ps k p ≡ Ok v → Named ps p × (place_value ps p ≡ v) × Sound v
-place_told ps k Absent v e =
+place_told ps k None v e =
     let same : ◌≡◌ {A = Value} None v = cc in
     (tt, same, subst Sound same (record { text = tt; short = lit< tt }))
-place_told ps k (At s) v e = part_told k (looked_up ps s) v e
+place_told ps k (Some s) v e = part_told k (looked_up ps s) v e
 
 key_told : (k : ℕ) (v : Value) (key : List ℕ) → key_of k v ≡ Ok key → v ≡ Some key
 key_told k (Some bs) key e = cc

@@ -1,11 +1,10 @@
 -- The writes of an hstore, one behind another.
-use Rattle.std.proofs.Common.{◌≡◌, ℕ, ◌+◌, ◌^◌, ◌<◌, ◌≤◌, cond, ltb, List, [], ◌∷◌, ◌++◌, length, get_or, take, drop, Ok, Err, sym, refl, ap, ◌∙◌, zero-le, arith}
+use Rattle.std.proofs.Common.{◌≡◌, ℕ, ◌+◌, ◌^◌, ◌<◌, ◌≤◌, cond, ltb, List, [], ◌∷◌, ◌++◌, length, get_or, take, drop, Ok, Err, sym, refl, ap, ◌∙◌, zero-le, arith, None}
 use Rattle.std.proofs.lemmas.List.{append_assoc, length-append, take_more, take-append-drop, flat_map_more}
 use Rattle.std.proofs.lemmas.Bool.{cond-true, lt-ltb}
 use Rattle.std.specs.List.{flat_map}
 use Rattle.fault.specs.declared.Rule.TheVariants.{TooGreat}
 use Rattle.fault.specs.Faults.{fault}
-use Rattle.texts.specs.declared.place.Place.TheVariants.{Absent}
 use Rattle.texts.specs.Places.{Bytes}
 use Rattle.wire.specs.Bytes.{put, over}
 use Rattle.wire.specs.Encoding.{laid_at}
@@ -23,7 +22,7 @@ joined_append f (x ∷ xs) ys = ap (λ r. f x ++ r) (joined_append f xs ys) ∙ 
 
 -- what is read past the entries
 abbrev pub no_entry : HstoreEntry
-no_entry = record { key = Absent; value = Absent }
+no_entry = record { key = None; value = None }
 
 -- entry i behind those before it
 module _ (ps : Bytes) (es : List HstoreEntry) (i : ℕ) where

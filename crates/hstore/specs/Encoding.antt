@@ -3,9 +3,7 @@ use Rattle.std.specs.Prelude.{ℕ, ◌+◌, ◌-◌, ◌^◌, ◌<◌, min, cond
 use Rattle.fault.specs.declared.Fault.{Fault}
 use Rattle.fault.specs.declared.Rule.TheVariants.{TooGreat, AbsentKey}
 use Rattle.fault.specs.Faults.{fault}
-use Rattle.texts.specs.declared.place.Place.{Place}
-use Rattle.texts.specs.declared.place.Place.TheVariants.{Absent, At}
-use Rattle.texts.specs.Places.{Bytes, looked_up, place_item}
+use Rattle.texts.specs.Places.{Place, Bytes, looked_up, place_item}
 use Rattle.wire.specs.Encoding.{Encoding}
 use Rattle.wire.specs.Items.{nullable}
 use Rattle.wire.specs.Words.{Value, then}
@@ -14,8 +12,8 @@ use Rattle.hstore.specs.Layout.{Entry, entry_layout, entries_layout, hstore_layo
 
 -- a key is there, or is refused at its entry
 abbrev pub there : ℕ → Place → Result Unit Fault → Result Unit Fault
-there k Absent on = Err (fault AbsentKey k)
-there k (At s) on = on
+there k None on = Err (fault AbsentKey k)
+there k (Some s) on = on
 
 -- every key is there; the first of these entries is entry k
 abbrev pub keys_there : ℕ → List HstoreEntry → Result Unit Fault
@@ -54,8 +52,8 @@ entries_size r = then r (λ xs. Ok (min (length (entries_layout xs)) (2 ^ 64 - 1
 
 -- what stands at a place: NULL, or the part of its pool
 abbrev pub place_value : Bytes → Place → Value
-place_value ps Absent = None
-place_value ps (At s) = looked_up ps s
+place_value ps None = None
+place_value ps (Some s) = looked_up ps s
 
 -- the entries by what stands at their places, each text behind its length word
 abbrev pub places_layout : Bytes → HstoreEntry → List ℕ
@@ -68,8 +66,8 @@ Counted (Some bs) = length bs < 2 ^ 31
 
 -- a place that is absent, or names such a part
 abbrev pub Named : Bytes → Place → Type 0
-Named ps Absent = Unit {0}
-Named ps (At s) = Counted (looked_up ps s)
+Named ps None = Unit {0}
+Named ps (Some s) = Counted (looked_up ps s)
 
 abbrev pub EntryNamed : Bytes → HstoreEntry → Type 0
 EntryNamed ps e = Named ps e.key × Named ps e.value

@@ -61,7 +61,7 @@ fn test_keys(entries: &[HstoreEntry]) -> Result<(), Fault>
     ensures { result ≡ keys_there 0 entries.now }
 {
     for (k, entry) in entries.iter().enumerate() {
-        if let Place::Absent = entry.key {
+        if let None = entry.key {
             return Err(Fault::new(Rule::AbsentKey, k));
         }
     }
@@ -115,9 +115,8 @@ fn put_text(pools: Pools<'_>, place: Place, part: &mut [u8], at: usize) -> Resul
     ensures answer { result ≡ Ok (at + length (nullable (place_value (pool_pair pools.entry) place))) }
     ensures after { part.new ≡ put at (nullable (place_value (pool_pair pools.entry) place)) part.old }
 {
-    let span = match place {
-        Place::Absent => return i32::put(part, at, -1),
-        Place::At(span) => span,
+    let Some(span) = place else {
+        return i32::put(part, at, -1);
     };
     let Some(text) = pools.lookup(span) else {
         return Err(Fault::new(Rule::OutsidePool, 0));

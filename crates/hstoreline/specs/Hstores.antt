@@ -11,8 +11,7 @@ use Rattle.hstore.specs.Recv.{read_entry}
 use Rattle.listing.specs.Lists.{list_onto}
 use Rattle.syntax.specs.Parsed.{bytes_in, split_at}
 use Rattle.syntax.specs.Printed.{byte_string}
-use Rattle.texts.specs.declared.place.Place.{Place}
-use Rattle.texts.specs.declared.place.Place.TheVariants.{Absent, At}
+use Rattle.texts.specs.Places.{Place}
 use Rattle.texts.specs.declared.place.Pool.TheVariants.{House}
 use Rattle.wire.specs.Cursor.{State}
 use Rattle.wire.specs.Encoding.{room_for}
@@ -31,12 +30,12 @@ hstore_answer (Err f) = refused f
 
 -- a text at the end of the house pool, and its place there
 abbrev pub bytes_onto : List ℕ → Option (List ℕ) → Option (List ℕ × Place)
-bytes_onto house (Some bs) = Some (house ++ bs, At (record { pool = House; start = length house; length = length bs }))
+bytes_onto house (Some bs) = Some (house ++ bs, Some (record { pool = House; start = length house; length = length bs }))
 bytes_onto house None = None
 
 -- NULL is absent, and leaves the pool as it is
 abbrev pub text_onto : List ℕ → List ℕ → Option (List ℕ × Place)
-text_onto house w = cond (bytes_eq w (codes "NULL")) (Some (house, Absent)) (bytes_onto house (bytes_in w))
+text_onto house w = cond (bytes_eq w (codes "NULL")) (Some (house, None)) (bytes_onto house (bytes_in w))
 
 abbrev pub with_value : Place → Option (List ℕ × Place) → Option (List ℕ × HstoreEntry)
 with_value key (Some p) = Some (p.0, record { key = key; value = p.1 })

@@ -70,14 +70,14 @@ fn parse_text(heap: Global, house: &mut Vec<u8>, word: &[u8]) -> Result<Option<P
     ensures { IfOk result (λ o. option_map (λ p. (house.new.items, p)) o ≡ text_onto house.old.items word.now) }
 {
     if let b"NULL" = word {
-        return Ok(Some(Place::Absent));
+        return Ok(Some(None));
     }
     let Some(text) = parse_bytes(heap, word)? else {
         return Ok(None);
     };
     let start = house.len();
     house.extend_from_slice(&text)?;
-    Ok(Some(Place::At(Span {
+    Ok(Some(Some(Span {
         pool: Pool::House,
         start,
         length: text.len(),

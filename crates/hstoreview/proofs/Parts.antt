@@ -1,11 +1,7 @@
 -- An entry, read part by part.
-use Rattle.std.proofs.Common.{◌≡◌, ℕ, ◌+◌, ◌-◌, List, Some, None, Ok, sym, ap, ◌∙◌, arith}
-use Rattle.std.proofs.lemmas.Bool.{cond-false, ne_eqb}
-use Rattle.wire.specs.Cursor.{State, taken, next_of, step}
+use Rattle.std.proofs.Common.{◌≡◌, ℕ, ◌+◌, List, Some, None, Ok, sym, ap, ◌∙◌}
 use Rattle.wire.specs.Words.{Value, then, value_at}
-use Rattle.hstore.specs.Layout.{Entry}
-use Rattle.hstore.specs.Recv.{text_at, key_in, key_at, value_in, entry_value_at, read_entry}
-use Rattle.hstore.proofs.Forms.{entry_ok}
+use Rattle.hstore.specs.Recv.{text_at, key_in, key_at, value_in, entry_value_at}
 
 module _ (bs : List ℕ) (at : ℕ) {v : Value} (read : Ok v ≡ value_at bs at) where
   pub value_null : v ≡ None → entry_value_at bs at ≡ Ok None

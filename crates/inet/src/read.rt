@@ -5,6 +5,7 @@ ghost use Rattle.inet.specs.Laws.{LaidOut};
 
 use crate::address::{Inet, IpAddr};
 use fault::{Fault, Rule};
+use wire::read::read_end;
 use wire::word::Word;
 
 // The address and mask that the bytes are. The third byte is ignored.
@@ -47,8 +48,6 @@ fn read_netmask(buf: &[u8], widest: u8, count: u8) -> Result<u8, Fault>
     if buf.len() < end {
         return Err(Fault::new(Rule::Truncated, 4));
     }
-    if buf.len() > end {
-        return Err(Fault::new(Rule::Trailing, end));
-    }
+    read_end(buf, end)?;
     Ok(buf[1])
 }

@@ -5,8 +5,7 @@ use Rattle.answers.specs.Plain.{bad_request, value_text, failure, list_text}
 use Rattle.element.specs.Kinds.{int4, int8, optional}
 use Rattle.serializer.specs.Runs.{run_items}
 use Rattle.syntax.specs.Parsed.{bytes_in, split_at}
-use Rattle.texts.specs.declared.place.Place.{Place}
-use Rattle.texts.specs.Places.{place_items}
+use Rattle.texts.specs.Places.{Place, place_items}
 use Rattle.wire.specs.Items.{Item}
 use Rattle.listing.specs.Lists.{list_in}
 use Rattle.listing.specs.Words.{element_in, place_in}

@@ -3,8 +3,7 @@ use Rattle.std.specs.Prelude.{ℕ, zero, suc, ◌-◌, ◌^◌, cond, List, [], 
 use Rattle.std.specs.Option.{option_map}
 use Rattle.std.specs.Str.{bytes_eq}
 use Rattle.syntax.specs.Parsed.{number_in, split_at}
-use Rattle.texts.specs.declared.place.Place.{Place}
-use Rattle.texts.specs.declared.place.Place.TheVariants.{Absent, At}
+use Rattle.texts.specs.Places.{Place}
 use Rattle.texts.specs.declared.place.Pool.{Pool}
 use Rattle.texts.specs.declared.place.Pool.TheVariants.{House, Supplier}
 
@@ -28,7 +27,7 @@ abbrev pub pool_in : List ℕ → Option Pool
 pool_in w = cond (bytes_eq w (codes "h")) (Some House) (cond (bytes_eq w (codes "s")) (Some Supplier) None)
 
 abbrev pub span_of : Option Pool → Option ℕ → Option ℕ → Option Place
-span_of (Some p) (Some s) (Some n) = Some (At (record { pool = p; start = s; length = n }))
+span_of (Some p) (Some s) (Some n) = Some (Some (record { pool = p; start = s; length = n }))
 span_of (Some p) (Some s) None = None
 span_of (Some p) None n = None
 span_of None s n = None
@@ -44,4 +43,4 @@ parts_in None = None
 
 -- NULL, or h:START:LENGTH or s:START:LENGTH
 abbrev pub place_in : List ℕ → Option Place
-place_in w = cond (bytes_eq w (codes "NULL")) (Some Absent) (parts_in (split_at 58 w))
+place_in w = cond (bytes_eq w (codes "NULL")) (Some None) (parts_in (split_at 58 w))

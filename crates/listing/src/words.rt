@@ -2,7 +2,6 @@
 ghost use Rattle.std.specs.Prelude.{◌≡◌, ◌^◌, ◌≤◌, Some};
 ghost use Rattle.std.specs.Option.{option_map};
 ghost use Rattle.syntax.specs.Parsed.{split_at};
-ghost use Rattle.texts.specs.declared.place.Place.TheVariants.{At};
 ghost use Rattle.listing.specs.Words.{negated, element_in, parts_in, place_in, pool_in, signed_in};
 
 use crate::list::Notation;
@@ -77,15 +76,15 @@ impl Notation for PlaceNotation {
 
     fn parse(word: &[u8]) -> Option<Place> {
         match word {
-            b"NULL" => Some(Place::Absent),
-            _ => parse_span(word).map(Place::At),
+            b"NULL" => Some(None),
+            _ => parse_span(word).map(Some),
         }
     }
 }
 
 // POOL:START:LENGTH
 fn parse_span(word: &[u8]) -> Option<Span>
-    ensures { option_map At result ≡ parts_in (split_at 58 word.now) }
+    ensures { option_map Some result ≡ parts_in (split_at 58 word.now) }
 {
     let (pool, span) = split_at_first(word, b':')?;
     let (start, length) = split_at_first(span, b':')?;

@@ -1,10 +1,9 @@
 -- The writes of a path, one behind another.
-use Rattle.std.proofs.Common.{◌≡◌, ℕ, ◌+◌, ◌*◌, ◌^◌, ◌<◌, ◌≤◌, Bool, true, false, cond, List, [], ◌∷◌, ◌++◌, length, get_or, take, Ok, sym, refl, ap, ◌∙◌, zero-le, arith}
+use Rattle.std.proofs.Common.{◌≡◌, ℕ, ◌+◌, ◌^◌, ◌<◌, ◌≤◌, Bool, true, false, cond, List, [], ◌∷◌, ◌++◌, length, Ok, refl, ap, ◌∙◌, arith}
 use mir.Val.{bool_byte}
-use Rattle.std.proofs.lemmas.List.{length-take-le, take_more, flat_map_more}
 use Rattle.std.proofs.lemmas.Bool.{lt-ltb, cond-true}
 use Rattle.double.specs.declared.point.Point.{Point}
-use Rattle.geometry.specs.Layout.{point_layout, points_layout}
+use Rattle.geometry.specs.Layout.{points_layout}
 use Rattle.wire.specs.Bytes.{put, over}
 use Rattle.wire.specs.Encoding.{told_at, laid_at}
 use Rattle.wire.specs.Words.{be}

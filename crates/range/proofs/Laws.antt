@@ -1,17 +1,15 @@
 -- The laws of reading.
-use Rattle.std.proofs.Common.{◌≡◌, ℕ, ◌+◌, ◌≤◌, Bool, true, false, cond, ltb, List, [], ◌∷◌, ◌++◌, length, drop, Some, None, Ok, Err, sym, refl, ap, ◌∙◌, subst, one-add, arith}
+use Rattle.std.proofs.Common.{◌≡◌, ℕ, ◌+◌, Bool, true, false, cond, List, [], ◌∷◌, ◌++◌, length, drop, Some, None, Ok, sym, refl, ap, ◌∙◌, subst, one-add, arith}
 use Rattle.std.proofs.lemmas.List.{append-nil, length-append, drop_all}
-use Rattle.std.proofs.lemmas.Bool.{cond-true, cond-false, le-ltb, ltb-false}
-use Rattle.fault.specs.declared.Rule.TheVariants.{Trailing}
-use Rattle.fault.specs.Faults.{fault}
+use Rattle.std.proofs.lemmas.Bool.{cond-true, cond-false, le-ltb}
 use Rattle.wire.specs.Bytes.{Octets}
-use Rattle.wire.specs.Words.{Value, then, u8_at}
+use Rattle.wire.specs.Words.{Value, then, ended, u8_at}
 use Rattle.wire.proofs.Reading.{uint_fits}
 use Rattle.wire.proofs.Wording.{word_1}
 use Rattle.range.specs.declared.bound.RangeBound.{RangeBound}
 use Rattle.range.specs.Laws.{Bounded, Form, ReadsBack, OnlyForms}
-use Rattle.range.specs.Recv.{Content, has, bound_at, ended, tagged, range_recv}
-use Rattle.wire.proofs.Taking.{then_ok}
+use Rattle.range.specs.Recv.{Content, has, bound_at, tagged, range_recv}
+use Rattle.wire.proofs.Taking.{then_ok, ended_ok}
 use Rattle.range.proofs.Bounds.{bound_reads, bound_formed, Formed}
 
 -- the two bounds of an even tag, and the end behind them
@@ -42,13 +40,9 @@ reads_back bs tag (Some p) small f =
     ∙ sym (even_reads all tag (p.0, at) (p.1, end) (tag_first tag (first ++ second)) f.even (sym lower) (sym upper))
     ∙ cond-false _ _ _ (le-ltb end (length all) (omega (arith, length-append first second)))
 
-ended_cases : {X : Type 0} (bs : List ℕ) (at : ℕ) (x y : X) (b : Bool) → ltb at (length bs) ≡ b → cond b (Err (fault Trailing at)) (Ok x) ≡ Ok y → (length bs ≤ at) × (x ≡ y)
-ended_cases bs at x y true t e = let z : ◌≡◌ {A = ℕ} 0 1 = cc in absurd (omega arith)
-ended_cases bs at x y false t e = (ltb-false at (length bs) t, cc)
-
 -- where it was the end, no byte remains
 ended_is : {X : Type 0} (bs : List ℕ) (at : ℕ) (x y : X) → ended bs at x ≡ Ok y → (drop at bs ≡ []) × (x ≡ y)
-ended_is bs at x y e = let c = ended_cases bs at x y (ltb at (length bs)) refl e in (drop_all at bs c.0, c.1)
+ended_is bs at x y e = let c = ended_ok bs at x y e in (drop_all at bs c.0, c.1)
 
 empty_form : (tag : ℕ) (rest : List ℕ) (c : Content) → has 1 tag ≡ true → ended (tag ∷ rest) 1 None ≡ Ok c → Form tag c (tag ∷ rest)
 empty_form tag rest c odd e =

@@ -1,12 +1,10 @@
 -- Reading a range (range_recv), whole.
-use Rattle.std.specs.Prelude.{ℕ, ◌+◌, Bool, cond, not, List, length, Some, None, Ok, Err, Option, Result, ◌==◌, bit_and, nat_lt}
+use Rattle.std.specs.Prelude.{ℕ, ◌+◌, Bool, cond, not, List, length, Some, None, Ok, Err, Option, Result, ◌==◌, bit_and}
 use Rattle.std.specs.Borrow.{Bor}
 use Rattle.std.specs.Option.{option_map}
 use Rattle.fault.specs.declared.Fault.{Fault}
-use Rattle.fault.specs.declared.Rule.TheVariants.{Trailing}
-use Rattle.fault.specs.Faults.{fault}
 use Rattle.wire.specs.Items.{nullable}
-use Rattle.wire.specs.Words.{Value, then, u8_at, value_at}
+use Rattle.wire.specs.Words.{Value, then, ended, u8_at, value_at}
 use Rattle.range.specs.declared.bound.Range.{Range}
 use Rattle.range.specs.declared.bound.Range.TheVariants.{Empty, Nonempty}
 use Rattle.range.specs.declared.bound.RangeBound.{RangeBound}
@@ -27,10 +25,6 @@ kind inclusive v = cond inclusive (Inclusive v) (Exclusive v)
 abbrev pub bound_at : ℕ → ℕ → ℕ → List ℕ → ℕ → Result (RangeBound Value × ℕ) Fault
 bound_at tag inclusive unbounded bs at =
     cond (has unbounded tag) (Ok (Unbounded, at)) (then (value_at bs at) (λ v. Ok (kind (has inclusive tag) v, at + length (nullable v))))
-
--- no byte may remain from a place on
-abbrev pub ended : {X : Type 0} → List ℕ → ℕ → X → Result X Fault
-ended bs at x = cond (nat_lt at (length bs)) (Err (fault Trailing at)) (Ok x)
 
 -- every odd tag is the empty range
 abbrev pub tagged : List ℕ → ℕ → Result Content Fault

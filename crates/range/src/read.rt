@@ -5,8 +5,8 @@ ghost use Rattle.range.specs.Recv.{bound_at, told_bound, told_range, range_recv}
 
 use crate::bound::{Range, RangeBound};
 use crate::side::Side;
-use fault::{Fault, Rule};
-use wire::read::read_value;
+use fault::Fault;
+use wire::read::{read_end, read_value};
 use wire::word::Word;
 
 // Reads a range whole. Every odd tag is the empty range, and unknown tag bits are ignored.
@@ -24,16 +24,12 @@ fn decode(buf: &[u8]) -> Result<Range<'_>, Fault>
 {
     let tag = u8::read(buf, 0)?;
     if tag & 1 != 0 {
-        if buf.len() > 1 {
-            return Err(Fault::new(Rule::Trailing, 1));
-        }
+        read_end(buf, 1)?;
         return Ok(Range::Empty);
     }
     let (lower, at) = read_bound(buf, 1, tag, Side::LOWER)?;
     let (upper, end) = read_bound(buf, at, tag, Side::UPPER)?;
-    if buf.len() > end {
-        return Err(Fault::new(Rule::Trailing, end));
-    }
+    read_end(buf, end)?;
     Ok(Range::Nonempty(lower, upper))
 }
 

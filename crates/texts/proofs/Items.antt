@@ -5,8 +5,7 @@ use Rattle.fault.specs.declared.Rule.TheVariants.{Missing}
 use Rattle.fault.specs.Faults.{fault}
 use Rattle.wire.specs.Items.{Item}
 use Rattle.serializer.specs.Lists.{item_at}
-use Rattle.texts.specs.declared.place.Place.{Place}
-use Rattle.texts.specs.Places.{Bytes, place_item, place_items}
+use Rattle.texts.specs.Places.{Place, Bytes, place_item, place_items}
 
 pub length_items : (ps : Bytes) (first : ℕ) (places : List Place) → length (place_items ps first places) ≡ length places
 length_items ps first [] = refl

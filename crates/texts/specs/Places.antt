@@ -11,12 +11,14 @@ use Rattle.wire.specs.Items.{Item}
 use Rattle.wire.specs.Words.{Value}
 use Rattle.text.specs.Recv.{text_recv}
 use Rattle.serializer.specs.Lists.{Short, item_at}
-use Rattle.texts.specs.declared.place.Place.{Place}
-use Rattle.texts.specs.declared.place.Place.TheVariants.{Absent, At}
 use Rattle.texts.specs.declared.place.Pool.{Pool}
 use Rattle.texts.specs.declared.place.Pool.TheVariants.{House, Supplier}
 use Rattle.texts.specs.declared.place.Span.{Span}
 use Rattle.texts.specs.declared.pools.Pools.{Pools}
+
+-- a text's place; an absent one is none
+abbrev pub Place : Type 0
+Place = Option Span
 
 -- the bytes of the house pool and of the supplier pool
 abbrev pub Bytes : Type 0
@@ -48,8 +50,8 @@ part_item k None = Err (fault OutsidePool k)
 
 -- the text at a place, as item k; an absent one is NULL
 abbrev pub place_item : Bytes → ℕ → Place → Item
-place_item ps k Absent = Ok None
-place_item ps k (At s) = part_item k (looked_up ps s)
+place_item ps k None = Ok None
+place_item ps k (Some s) = part_item k (looked_up ps s)
 
 -- the texts at places, the first of them as item k
 abbrev pub place_items : Bytes → ℕ → List Place → List Item
@@ -67,8 +69,8 @@ part_short k (Some bs) = checked_short k (text_recv bs)
 part_short k None = tt
 
 place_short : (ps : Bytes) (k : ℕ) (p : Place) → Short (place_item ps k p)
-place_short ps k Absent = tt
-place_short ps k (At s) = part_short k (looked_up ps s)
+place_short ps k None = tt
+place_short ps k (Some s) = part_short k (looked_up ps s)
 
 short_from : (ps : Bytes) (first : ℕ) (places : List Place) (k : ℕ) (f : Fault) → Short (slice_index_or (place_items ps first places) k (Err f))
 short_from ps first [] k f = tt

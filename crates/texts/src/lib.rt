@@ -16,7 +16,7 @@ mod tests {
     use wire::oid::IsNull;
 
     fn at(pool: Pool, start: usize, length: usize) -> Place {
-        Place::At(Span {
+        Some(Span {
             pool,
             start,
             length,
@@ -44,7 +44,7 @@ mod tests {
     fn items(rt: HostRuntime) -> Result<(), Fail> {
         let pools = Pools::new(b"salt, pepper", b"cr\xC3\xA8me");
         let places = [
-            Place::Absent,
+            None,
             at(Pool::House, 6, 6),
             at(Pool::Supplier, 0, 6),
             at(Pool::Supplier, 1, 6),

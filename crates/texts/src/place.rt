@@ -16,8 +16,4 @@ pub struct Span {
 }
 
 // A text's place, or none: then the text is NULL.
-#[derive(Clone, Copy, PartialEq, Eq, Debug)]
-pub enum Place {
-    Absent,
-    At(Span),
-}
+pub type Place = Option<Span>;

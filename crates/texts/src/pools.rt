@@ -52,9 +52,8 @@ impl<'a> Pools<'a> {
     pub fn text(&self, place: Place, k: usize) -> Result<Option<&'a [u8]>, Fault>
         ensures { seen result ≡ place_item (pool_pair self.now) k place }
     {
-        let span = match place {
-            Place::Absent => return Ok(None),
-            Place::At(span) => span,
+        let Some(span) = place else {
+            return Ok(None);
         };
         let Some(part) = self.lookup(span) else {
             return Err(Fault::new(Rule::OutsidePool, k));

@@ -4,7 +4,7 @@ ghost use Rattle.varbit.specs.Laws.{OnlyLayouts};
 ghost use Rattle.varbit.specs.Recv.{seen_bits, told_bits, varbit_recv};
 
 use fault::{Fault, Rule};
-use wire::read::read_count;
+use wire::read::{read_count, read_end};
 
 // A bit string that was read.
 #[derive(Clone, Copy)]
@@ -30,9 +30,7 @@ fn read_varbit(buf: &[u8]) -> Result<Varbit<'_>, Fault>
     if buf.len() < end {
         return Err(Fault::new(Rule::Overrun, 0));
     }
-    if buf.len() > end {
-        return Err(Fault::new(Rule::Trailing, end));
-    }
+    read_end(buf, end)?;
     Ok(Varbit {
         len,
         bytes: &buf[4..],

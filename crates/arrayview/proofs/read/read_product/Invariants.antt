@@ -1,7 +1,10 @@
-use Rattle.std.proofs.Common.{◌≡◌, ◌-◌, ◌^◌, ◌<◌}
+use Rattle.std.proofs.Common.{◌≡◌, ◌+◌, ◌-◌, ◌*◌, ◌^◌, ◌<◌, ◌≤◌, length}
 use Rattle.array.specs.Recv.{product_from}
 use Rattle.arrayview.proofs.read.read_product.Given as goal
 
 -- what is left gives the answer
-abbrev pub invariant-loop : goal.invariant-loop
-invariant-loop l = (l.product < 2 ^ 31) × (product_from (l.count - l.counter) l.buf l.at l.product ≡ product_from l.count l.buf 12 1)
+abbrev pub invariant-loop-i : goal.invariant-loop-i
+invariant-loop-i l =
+    (l.product < 2 ^ 31)
+    × (8 * l.i ≤ length l.buf)
+    × (product_from (l.count - l.i) l.buf (12 + 8 * l.i) l.product ≡ product_from l.count l.buf 12 1)

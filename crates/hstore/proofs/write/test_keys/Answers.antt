@@ -3,11 +3,11 @@ use Rattle.std.proofs.lemmas.List.{at_drop_more, at_drop_all}
 use Rattle.hstore.specs.Encoding.{there, keys_there}
 use Rattle.hstore.proofs.write.test_keys.Goals as goal
 
-pub returns-in-Absent : goal.returns-in-Absent
-returns-in-Absent c =
+pub returns-in-None : goal.returns-in-None
+returns-in-None c =
     let es = c.args.entries.now in
     let k = c.loop-k.k in
-    let here = at_drop_more (keys_there k) es k _ c.loop-k-test.true ∙ ap (λ p. there k p (keys_there (k + 1) (drop (k + 1) es))) c.in-Absent.is in
+    let here = at_drop_more (keys_there k) es k _ c.loop-k-test.true ∙ ap (λ p. there k p (keys_there (k + 1) (drop (k + 1) es))) c.in-None.is in
     ap Err c.new.ensures ∙ sym here ∙ c.loop-k.invariant
 
 pub loop-k-preserved : goal.loop-k-preserved

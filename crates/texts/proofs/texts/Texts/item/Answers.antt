@@ -1,6 +1,5 @@
-use Rattle.std.proofs.Common.{Err, sym, ap, ◌∙◌, arith}
+use Rattle.std.proofs.Common.{Err, sym, ap, ◌∙◌, arith, None}
 use Rattle.texts.specs.Places.{pool_pair}
-use Rattle.texts.specs.declared.place.Place.TheVariants.{Absent}
 use Rattle.texts.proofs.Items.{item_within, item_past}
 use Rattle.texts.proofs.texts.Texts.item.Goals as goal
 
@@ -12,4 +11,4 @@ returns-then-k-self c =
 pub returns : goal.returns
 returns c =
     let self = c.args.self.now in
-    c.text.ensures ∙ sym (item_within (pool_pair self.pools) self.places.now c.args.k Absent c.if-k-self.false)
+    c.text.ensures ∙ sym (item_within (pool_pair self.pools) self.places.now c.args.k None c.if-k-self.false)
