@@ -1,44 +1,61 @@
 //! The words that stand in lists.
 ghost use Rattle.std.specs.Prelude.{◌≡◌, ◌^◌, ◌≤◌, Some};
-ghost use Rattle.std.specs.Option.{option_map};
 ghost use Rattle.syntax.specs.Parsed.{split_at};
-ghost use Rattle.listing.specs.Words.{negated, element_in, parts_in, place_in, pool_in, signed_in};
+ghost use Rattle.listing.specs.Words.{negated, null_or, parts_in, pool_in, signed_in};
 
 use crate::list::Notation;
+use std::marker::PhantomData;
 use syntax::parse::{parse_number, split_at_first};
-use texts::place::{Place, Pool, Span};
+use texts::place::{Pool, Span};
 
-// NULL, or a signed number of four bytes.
-pub struct Int4Notation;
+// NULL, or a word of another notation.
+pub struct Nullable<N> {
+    notation: PhantomData<N>,
+}
 
-impl Notation for Int4Notation {
-    type Item = Option<i32>;
+impl<N: Notation> Notation for Nullable<N> {
+    type Item = Option<N::Item>;
 
-    ghost reads = { element_in 31 };
+    ghost reads = { null_or N.Notation.reads };
 
-    fn parse(word: &[u8]) -> Option<Option<i32>> {
+    fn parse(word: &[u8]) -> Option<Option<N::Item>> {
         match word {
             b"NULL" => Some(None),
-            _ => parse_int4(word).map(Some),
+            _ => N::parse(word).map(Some),
         }
     }
 }
 
-// NULL, or a signed number of eight bytes.
-pub struct Int8Notation;
+// A signed number of four bytes.
+pub struct Int4Word;
 
-impl Notation for Int8Notation {
-    type Item = Option<i64>;
+impl Notation for Int4Word {
+    type Item = i32;
 
-    ghost reads = { element_in 63 };
+    ghost reads = { signed_in 31 };
 
-    fn parse(word: &[u8]) -> Option<Option<i64>> {
-        match word {
-            b"NULL" => Some(None),
-            _ => parse_signed(word, 63).map(Some),
-        }
+    fn parse(word: &[u8]) -> Option<i32> {
+        parse_int4(word)
     }
 }
+
+// A signed number of eight bytes.
+pub struct Int8Word;
+
+impl Notation for Int8Word {
+    type Item = i64;
+
+    ghost reads = { signed_in 63 };
+
+    fn parse(word: &[u8]) -> Option<i64> {
+        parse_signed(word, 63)
+    }
+}
+
+// The elements of an array of int4 or int8.
+pub type Int4Notation = Nullable<Int4Word>;
+
+pub type Int8Notation = Nullable<Int8Word>;
 
 // A signed number of four bytes.
 pub fn parse_int4(word: &[u8]) -> Option<i32>
@@ -66,25 +83,25 @@ fn negate(n: u64) -> i64
     if n == 0 { 0 } else { -1 - (n - 1) as i64 }
 }
 
-// A place of a texts source.
-pub struct PlaceNotation;
+// A part of a pool.
+pub struct SpanWord;
 
-impl Notation for PlaceNotation {
-    type Item = Place;
+impl Notation for SpanWord {
+    type Item = Span;
 
-    ghost reads = { place_in };
+    ghost reads = { λ w. parts_in (split_at 58 w) };
 
-    fn parse(word: &[u8]) -> Option<Place> {
-        match word {
-            b"NULL" => Some(None),
-            _ => parse_span(word).map(Some),
-        }
+    fn parse(word: &[u8]) -> Option<Span> {
+        parse_span(word)
     }
 }
 
+// A place of a texts source.
+pub type PlaceNotation = Nullable<SpanWord>;
+
 // POOL:START:LENGTH
 fn parse_span(word: &[u8]) -> Option<Span>
-    ensures { option_map Some result ≡ parts_in (split_at 58 word.now) }
+    ensures { result ≡ parts_in (split_at 58 word.now) }
 {
     let (pool, span) = split_at_first(word, b':')?;
     let (start, length) = split_at_first(span, b':')?;
