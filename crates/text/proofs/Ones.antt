@@ -1,9 +1,9 @@
 -- The leading ones of an octet, and the octets that they announce.
-use Rattle.std.proofs.Common.{◌≡◌, ℕ, ◌+◌, ◌-◌, ◌*◌, ◌^◌, ◌<◌, ◌≤◌, cond, eqb, sym, refl, ap, ◌∙◌, ⊎_elim, arith, pow_mono}
+use Rattle.std.proofs.Common.{◌≡◌, ℕ, ◌+◌, ◌-◌, ◌*◌, ◌^◌, ◌<◌, ◌≤◌, Some, None, sym, refl, ap, ◌∙◌, ⊎_elim, arith, pow_mono}
 use lib.Count.{count_leading_zeros, leading_unique, leading_length}
-use Rattle.std.proofs.lemmas.Bool.{cases_lt, cond-false, ne_eqb}
+use Rattle.std.proofs.lemmas.Bool.{cases_lt}
 use Rattle.std.proofs.lemmas.Bool.Decides.{nat_tests}
-use Rattle.text.specs.Octets.{announced, Tail}
+use Rattle.text.specs.Octets.{announced, counted}
 
 -- b has n leading ones, and announces m octets
 pub data Ones (b n m : ℕ) : Type 0 where
@@ -32,44 +32,26 @@ ones b h =
         let t = leading_length 8 (255 - b) (omega arith) in
         ⊎_elim (λ g. omega (arith, t.1)) (λ g. absurd (omega (arith, t.3, pow_mono {i = 4} {j = t.0} g))) (cases_lt t.0 4)
 
--- the octets that n leading ones announce
-abbrev pub by_ones : ℕ → ℕ
-by_ones n = cond (eqb n 0) 1 (cond (eqb n 2) 2 (cond (eqb n 3) 3 (cond (eqb n 4) 4 0)))
-
-pub by_rest : (n : ℕ) → (n ≡ 0 → ⊥) → (n ≡ 2 → ⊥) → (n ≡ 3 → ⊥) → (n ≡ 4 → ⊥) → by_ones n ≡ 0
-by_rest n p q r s = cond-false _ _ _ (ne_eqb n 0 p) ∙ cond-false _ _ _ (ne_eqb n 2 q) ∙ cond-false _ _ _ (ne_eqb n 3 r) ∙ cond-false _ _ _ (ne_eqb n 4 s)
-
-pub announced_by : (b n : ℕ) → b < 256 → n ≡ count_leading_zeros 8 (255 - b) → by_ones n ≡ announced b
-announced_by b n h e = ap by_ones e ∙ told (ones b h)
-  where
-    told : {k m : ℕ} → Ones b k m → by_ones k ≡ m
-    told (ones0 _ p q) = ap by_ones p ∙ sym q
-    told (ones1 _ _ p q) = ap by_ones p ∙ sym q
-    told (ones2 _ _ p q) = ap by_ones p ∙ sym q
-    told (ones3 _ _ p q) = ap by_ones p ∙ sym q
-    told (ones4 _ _ p q) = ap by_ones p ∙ sym q
-    told {k} (ones5 _ l q) = by_rest k (λ p. omega arith) (λ p. omega arith) (λ p. omega arith) (λ p. omega arith) ∙ sym q
-
--- a tail octet has one
-module _ (b n m : ℕ) (o : Ones b n m) where
-  pub tail_from : n ≡ 1 → Tail b
-  tail_from e =
-      elim o [
-        | ones0 _ k _ ↦ absurd (omega arith)
-        | ones1 l u _ _ ↦ (l, omega arith)
-        | ones2 _ _ k _ ↦ absurd (omega arith)
-        | ones3 _ _ k _ ↦ absurd (omega arith)
-        | ones4 _ _ k _ ↦ absurd (omega arith)
-        | ones5 _ l _ ↦ absurd (omega arith)
+-- n leading ones behind ASCII: what they announce
+module _ (b n : ℕ) (h : b < 256) (l : 0x80 ≤ b) (e : n ≡ count_leading_zeros 8 (255 - b)) where
+  pub led : 2 ≤ n → n ≤ 4 → Some n ≡ counted (announced b)
+  led p q =
+      elim (ones b h) [
+        | ones0 u _ _ ↦ absurd (omega arith)
+        | ones1 _ _ k _ ↦ absurd (omega arith)
+        | ones2 _ _ k m ↦ ap Some (e ∙ k) ∙ sym (ap counted m)
+        | ones3 _ _ k m ↦ ap Some (e ∙ k) ∙ sym (ap counted m)
+        | ones4 _ _ k m ↦ ap Some (e ∙ k) ∙ sym (ap counted m)
+        | ones5 _ k _ ↦ absurd (omega arith)
       ]
 
-  pub from_tail : Tail b → n ≡ 1
-  from_tail t =
-      elim o [
+  pub unled : (2 ≤ n → n ≤ 4 → ⊥) → None ≡ counted (announced b)
+  unled p =
+      elim (ones b h) [
         | ones0 u _ _ ↦ absurd (omega arith)
-        | ones1 _ _ k _ ↦ k
-        | ones2 l _ _ _ ↦ absurd (omega arith)
-        | ones3 l _ _ _ ↦ absurd (omega arith)
-        | ones4 l _ _ _ ↦ absurd (omega arith)
-        | ones5 l _ _ ↦ absurd (omega arith)
+        | ones1 _ _ _ m ↦ sym (ap counted m)
+        | ones2 _ _ k _ ↦ absurd (p (omega arith) (omega arith))
+        | ones3 _ _ k _ ↦ absurd (p (omega arith) (omega arith))
+        | ones4 _ _ k _ ↦ absurd (p (omega arith) (omega arith))
+        | ones5 _ _ m ↦ sym (ap counted m)
       ]

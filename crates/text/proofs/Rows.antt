@@ -1,5 +1,5 @@
 -- The rows of RFC 3629, section 4, and the values that their octets write.
-use Rattle.std.proofs.Common.{◌≡◌, ℕ, suc, ◌+◌, ◌*◌, ◌%◌, ◌<◌, ◌≤◌, true, false, ◌&&◌, leb, List, [], ◌∷◌, length, get_or, drop, sym, refl, ap, ◌∙◌, subst, inl, inr, ⊎_elim, arith, drop-cons}
+use Rattle.std.proofs.Common.{◌≡◌, ℕ, suc, ◌+◌, ◌*◌, ◌%◌, ◌<◌, ◌≤◌, Bool, true, false, cond, Decides, ◌&&◌, leb, List, [], ◌∷◌, length, get_or, drop, sym, refl, ap, ◌∙◌, subst, inl, inr, ⊎_elim, arith, drop-cons}
 use Rattle.std.proofs.lemmas.List.{drop_all}
 use Rattle.std.proofs.lemmas.Bool.{cases_lt, cases_Bool, cond-true, cond-false, leb-true, le-leb, and_parts, and_from, both_ways, false≢true}
 use Rattle.std.specs.List.{AllByRecursion}
@@ -212,7 +212,19 @@ module _ (bs : List ℕ) where
   not_three l r = is_none (λ _ t. omega arith) (λ _ t. omega arith) r (λ _ t. omega arith)
 
   pub not_four : (0xF0 ≤ a) × (a < 0xF8) → (4 ≤ length bs → Four a b d e → ⊥) → character bs ≡ 0
-  not_four l s = is_none (λ _ t. omega arith) (λ _ t. omega arith) (λ _ t. omega arith) s
+  not_four l s = is_none (λ _ t. omega arith) (λ _ t. omega arith) (λ _ t. omega arith) s  -- a test for the octets of a character, and its length
+
+  pub told_two : (r : Bool) → (0xC0 ≤ a) × (a < 0xE0) → 2 ≤ length bs → Decides r (Two a b) → cond r 2 0 ≡ character bs
+  told_two true l n w = sym (is_two n (w.0 refl))
+  told_two false l n w = sym (not_two l (λ _ t. absurd (false≢true (w.1 t))))
+
+  pub told_three : (r : Bool) → (0xE0 ≤ a) × (a < 0xF0) → 3 ≤ length bs → Decides r (Three a b d) → cond r 3 0 ≡ character bs
+  told_three true l n w = sym (is_three n (w.0 refl))
+  told_three false l n w = sym (not_three l (λ _ t. absurd (false≢true (w.1 t))))
+
+  pub told_four : (r : Bool) → (0xF0 ≤ a) × (a < 0xF8) → 4 ≤ length bs → Decides r (Four a b d e) → cond r 4 0 ≡ character bs
+  told_four true l n w = sym (is_four n (w.0 refl))
+  told_four false l n w = sym (not_four l (λ _ t. absurd (false≢true (w.1 t))))
 
   pub character_within : character bs ≤ length bs
   character_within = elim kind [ in0 _ k ↦ omega arith | in1 n _ k ↦ omega arith | in2 n _ k ↦ omega arith | in3 n _ k ↦ omega arith | in4 n _ k ↦ omega arith ]

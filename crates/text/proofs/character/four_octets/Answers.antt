@@ -1,37 +1,44 @@
-use Rattle.std.proofs.Common.{◌≡◌, ◌∷◌, sym, subst, arith}
+use Rattle.std.proofs.Common.{◌≡◌, ◌∷◌, true, Decides, sym, ◌∙◌, subst, arith}
 use Rattle.std.proofs.lemmas.Nat.{and_mask}
 use Rattle.std.proofs.lemmas.Bool.{both_ways}
-use Rattle.text.specs.Utf8.{Scalar}
-use Rattle.text.proofs.Rows.{of_four, is_four, not_four}
+use Rattle.text.specs.Octets.{Tail, Shortest}
+use Rattle.text.proofs.Rows.{of_four, told_four}
 use Rattle.text.proofs.character.four_octets.Goals as goal
-use Rattle.text.proofs.character.four_octets.Goals.{then-not-is_tail-via-then-not-is_tail, then-not-is_tail-via-else-not-is_tail+then-not-is_tail-2, then-not-is_tail-via-else-not-is_tail+else-not-is_tail-2+then-not-is_tail-3}
+use Rattle.text.proofs.character.four_octets.Goals.{then-is_tail, else-is_tail, then-is_tail-2, else-is_tail-2}
 
-pub returns-then-not-is_tail : goal.returns-then-not-is_tail
-returns-then-not-is_tail c rest =
-    sym (not_four (c.args.first ∷ c.args.second ∷ c.args.third ∷ c.args.fourth ∷ rest) c.requires
-    (λ _ t. elim c.then-not-is_tail.branch [
-      | then-not-is_tail-via-then-not-is_tail w ↦
-          both_ways c.is_tail.result w.if-not-is_tail.true (c.is_tail.ensures.1 t.second)
-      | then-not-is_tail-via-else-not-is_tail+then-not-is_tail-2 w ↦
-          both_ways w.is_tail-else-not-is_tail.result w.if-not-is_tail-2.true (w.is_tail-else-not-is_tail.ensures.1 t.third)
-      | then-not-is_tail-via-else-not-is_tail+else-not-is_tail-2+then-not-is_tail-3 w ↦
-          both_ways w.is_tail-else-not-is_tail-2.result w.if-not-is_tail-3.true (w.is_tail-else-not-is_tail-2.ensures.1 t.fourth)
-    ]))
-
-pub returns-then-is_shortest_scalar : goal.returns-then-is_shortest_scalar
-returns-then-is_shortest_scalar c rest =
+pub returns-then-is_tail-3 : goal.returns-then-is_tail-3
+returns-then-is_tail-3 c rest =
     let value : c.with_tail-value.result ≡ of_four c.args.first c.args.second c.args.third c.args.fourth = omega (arith, and_mask c.args.first 3) in
-    let ok = c.is_shortest_scalar.ensures.0 c.if-is_shortest_scalar.true in
-    sym (is_four (c.args.first ∷ c.args.second ∷ c.args.third ∷ c.args.fourth ∷ rest) (omega arith) (record {
-      lead = c.requires;
-      second = c.is_tail.ensures.0 c.if-not-is_tail.false;
-      third = c.is_tail-else-not-is_tail.ensures.0 c.if-not-is_tail-2.false;
-      fourth = c.is_tail-else-not-is_tail-2.ensures.0 c.if-not-is_tail-3.false;
-      shortest = (omega (arith, ok.0), subst Scalar value ok.1);
-    }))
+    let w = subst (λ v. Decides c.is_shortest_scalar.result (Shortest 0x10000 v)) value c.is_shortest_scalar.ensures in
+    let tails : c.if-is_tail.value ≡ true → Tail c.args.second × Tail c.args.third = λ e. elim c.if-is_tail.branch [
+      | then-is_tail w ↦ (c.is_tail.ensures.0 w.if-is_tail.true, w.is_tail-then-is_tail.ensures.0 (sym w.value-is ∙ e))
+      | else-is_tail w ↦ absurd (both_ways c.if-is_tail.value (w.value-is ∙ w.if-is_tail.false) e)
+    ] in
+    let all : (Tail c.args.second × Tail c.args.third) × Tail c.args.fourth = elim c.if-is_tail-2.branch [
+      | then-is_tail-2 w ↦ (tails w.if-is_tail-2.true, w.is_tail-then-is_tail-2.ensures.0 (sym w.value-is ∙ c.if-is_tail-3.true))
+      | else-is_tail-2 w ↦ absurd (both_ways c.if-is_tail-2.value (w.value-is ∙ w.if-is_tail-2.false) c.if-is_tail-3.true)
+    ] in
+    told_four (c.args.first ∷ c.args.second ∷ c.args.third ∷ c.args.fourth ∷ rest) _ c.requires (omega arith) (
+      (λ e. record {
+        lead = c.requires;
+        second = all.0.0;
+        third = all.0.1;
+        fourth = all.1;
+        shortest = w.0 e;
+      }),
+      λ t. w.1 t.shortest,
+    )
 
-pub returns-else-is_shortest_scalar : goal.returns-else-is_shortest_scalar
-returns-else-is_shortest_scalar c rest =
-    let value : c.with_tail-value.result ≡ of_four c.args.first c.args.second c.args.third c.args.fourth = omega (arith, and_mask c.args.first 3) in
-    sym (not_four (c.args.first ∷ c.args.second ∷ c.args.third ∷ c.args.fourth ∷ rest) c.requires
-    (λ _ t. both_ways c.is_shortest_scalar.result c.if-is_shortest_scalar.false (c.is_shortest_scalar.ensures.1 (omega (arith, t.shortest.0), subst Scalar (sym value) t.shortest.1))))
+pub returns-else-is_tail-3 : goal.returns-else-is_tail-3
+returns-else-is_tail-3 c rest =
+    let tails : Tail c.args.second → Tail c.args.third → c.if-is_tail.value ≡ true = λ s t. elim c.if-is_tail.branch [
+      | then-is_tail w ↦ w.value-is ∙ w.is_tail-then-is_tail.ensures.1 t
+      | else-is_tail w ↦ absurd (both_ways c.is_tail.result w.if-is_tail.false (c.is_tail.ensures.1 s))
+    ] in
+    told_four (c.args.first ∷ c.args.second ∷ c.args.third ∷ c.args.fourth ∷ rest) _ c.requires (omega arith) (
+      (λ e. absurd (both_ways c.if-is_tail-2.value c.if-is_tail-3.false e)),
+      λ t. elim c.if-is_tail-2.branch [
+        | then-is_tail-2 w ↦ w.value-is ∙ w.is_tail-then-is_tail-2.ensures.1 t.fourth
+        | else-is_tail-2 w ↦ absurd (both_ways c.if-is_tail.value w.if-is_tail-2.false (tails t.second t.third))
+      ],
+    )

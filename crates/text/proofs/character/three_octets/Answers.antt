@@ -1,34 +1,35 @@
-use Rattle.std.proofs.Common.{◌≡◌, ◌∷◌, sym, subst, arith}
+use Rattle.std.proofs.Common.{◌≡◌, ◌∷◌, Decides, sym, ◌∙◌, subst, arith}
 use Rattle.std.proofs.lemmas.Nat.{and_mask}
 use Rattle.std.proofs.lemmas.Bool.{both_ways}
-use Rattle.text.specs.Utf8.{Scalar}
-use Rattle.text.proofs.Rows.{of_three, is_three, not_three}
+use Rattle.text.specs.Octets.{Tail, Shortest}
+use Rattle.text.proofs.Rows.{of_three, told_three}
 use Rattle.text.proofs.character.three_octets.Goals as goal
-use Rattle.text.proofs.character.three_octets.Goals.{then-not-is_tail-via-then-not-is_tail, then-not-is_tail-via-else-not-is_tail+then-not-is_tail-2}
+use Rattle.text.proofs.character.three_octets.Goals.{then-is_tail, else-is_tail}
 
-pub returns-then-not-is_tail : goal.returns-then-not-is_tail
-returns-then-not-is_tail c rest =
-    sym (not_three (c.args.first ∷ c.args.second ∷ c.args.third ∷ rest) c.requires
-    (λ _ t. elim c.then-not-is_tail.branch [
-      | then-not-is_tail-via-then-not-is_tail w ↦
-          both_ways c.is_tail.result w.if-not-is_tail.true (c.is_tail.ensures.1 t.second)
-      | then-not-is_tail-via-else-not-is_tail+then-not-is_tail-2 w ↦
-          both_ways w.is_tail-else-not-is_tail.result w.if-not-is_tail-2.true (w.is_tail-else-not-is_tail.ensures.1 t.third)
-    ]))
-
-pub returns-then-is_shortest_scalar : goal.returns-then-is_shortest_scalar
-returns-then-is_shortest_scalar c rest =
+pub returns-then-is_tail-2 : goal.returns-then-is_tail-2
+returns-then-is_tail-2 c rest =
     let value : c.with_tail-value.result ≡ of_three c.args.first c.args.second c.args.third = omega (arith, and_mask c.args.first 4) in
-    let ok = c.is_shortest_scalar.ensures.0 c.if-is_shortest_scalar.true in
-    sym (is_three (c.args.first ∷ c.args.second ∷ c.args.third ∷ rest) (omega arith) (record {
-      lead = c.requires;
-      second = c.is_tail.ensures.0 c.if-not-is_tail.false;
-      third = c.is_tail-else-not-is_tail.ensures.0 c.if-not-is_tail-2.false;
-      shortest = (omega (arith, ok.0), subst Scalar value ok.1);
-    }))
+    let w = subst (λ v. Decides c.is_shortest_scalar.result (Shortest 0x800 v)) value c.is_shortest_scalar.ensures in
+    let tails : Tail c.args.second × Tail c.args.third = elim c.if-is_tail.branch [
+      | then-is_tail w ↦ (c.is_tail.ensures.0 w.if-is_tail.true, w.is_tail-then-is_tail.ensures.0 (sym w.value-is ∙ c.if-is_tail-2.true))
+      | else-is_tail w ↦ absurd (both_ways c.if-is_tail.value (w.value-is ∙ w.if-is_tail.false) c.if-is_tail-2.true)
+    ] in
+    told_three (c.args.first ∷ c.args.second ∷ c.args.third ∷ rest) _ c.requires (omega arith) (
+      (λ e. record {
+        lead = c.requires;
+        second = tails.0;
+        third = tails.1;
+        shortest = w.0 e;
+      }),
+      λ t. w.1 t.shortest,
+    )
 
-pub returns-else-is_shortest_scalar : goal.returns-else-is_shortest_scalar
-returns-else-is_shortest_scalar c rest =
-    let value : c.with_tail-value.result ≡ of_three c.args.first c.args.second c.args.third = omega (arith, and_mask c.args.first 4) in
-    sym (not_three (c.args.first ∷ c.args.second ∷ c.args.third ∷ rest) c.requires
-    (λ _ t. both_ways c.is_shortest_scalar.result c.if-is_shortest_scalar.false (c.is_shortest_scalar.ensures.1 (omega (arith, t.shortest.0), subst Scalar (sym value) t.shortest.1))))
+pub returns-else-is_tail-2 : goal.returns-else-is_tail-2
+returns-else-is_tail-2 c rest =
+    told_three (c.args.first ∷ c.args.second ∷ c.args.third ∷ rest) _ c.requires (omega arith) (
+      (λ e. absurd (both_ways c.if-is_tail.value c.if-is_tail-2.false e)),
+      λ t. elim c.if-is_tail.branch [
+        | then-is_tail w ↦ w.value-is ∙ w.is_tail-then-is_tail.ensures.1 t.third
+        | else-is_tail w ↦ absurd (both_ways c.is_tail.result w.if-is_tail.false (c.is_tail.ensures.1 t.second))
+      ],
+    )
