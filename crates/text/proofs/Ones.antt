@@ -3,6 +3,8 @@ use Rattle.std.proofs.Common.{◌≡◌, ℕ, ◌+◌, ◌-◌, ◌*◌, ◌^◌
 use lib.Count.{count_leading_zeros, leading_unique, leading_length}
 use Rattle.std.proofs.lemmas.Bool.{cases_lt}
 use Rattle.std.proofs.lemmas.Bool.Decides.{nat_tests}
+use Rattle.std.specs.Int.{leading_ones}
+use mir.Syntax.{w8}
 use Rattle.text.specs.Octets.{announced, counted}
 
 -- b has n leading ones, and announces m octets
@@ -32,26 +34,32 @@ ones b h =
         let t = leading_length 8 (255 - b) (omega arith) in
         ⊎_elim (λ g. omega (arith, t.1)) (λ g. absurd (omega (arith, t.3, pow_mono {i = 4} {j = t.0} g))) (cases_lt t.0 4)
 
--- n leading ones behind ASCII: what they announce
-module _ (b n : ℕ) (h : b < 256) (l : 0x80 ≤ b) (e : n ≡ count_leading_zeros 8 (255 - b)) where
-  pub led : 2 ≤ n → n ≤ 4 → Some n ≡ counted (announced b)
+-- what the leading ones announce behind ASCII
+module _ (b : ℕ) (h : b < 256) (l : 0x80 ≤ b) where
+  pub led : 2 ≤ leading_ones w8 b → leading_ones w8 b ≤ 4 → counted (announced b) ≡ Some (leading_ones w8 b)
   led p q =
       elim (ones b h) [
         | ones0 u _ _ ↦ absurd (omega arith)
         | ones1 _ _ k _ ↦ absurd (omega arith)
-        | ones2 _ _ k m ↦ ap Some (e ∙ k) ∙ sym (ap counted m)
-        | ones3 _ _ k m ↦ ap Some (e ∙ k) ∙ sym (ap counted m)
-        | ones4 _ _ k m ↦ ap Some (e ∙ k) ∙ sym (ap counted m)
+        | ones2 _ _ k m ↦ ap counted m ∙ sym (ap Some k)
+        | ones3 _ _ k m ↦ ap counted m ∙ sym (ap Some k)
+        | ones4 _ _ k m ↦ ap counted m ∙ sym (ap Some k)
         | ones5 _ k _ ↦ absurd (omega arith)
       ]
 
-  pub unled : (2 ≤ n → n ≤ 4 → ⊥) → None ≡ counted (announced b)
+  pub unled : (2 ≤ leading_ones w8 b → leading_ones w8 b ≤ 4 → ⊥) → counted (announced b) ≡ None
   unled p =
       elim (ones b h) [
         | ones0 u _ _ ↦ absurd (omega arith)
-        | ones1 _ _ _ m ↦ sym (ap counted m)
+        | ones1 _ _ _ m ↦ ap counted m
         | ones2 _ _ k _ ↦ absurd (p (omega arith) (omega arith))
         | ones3 _ _ k _ ↦ absurd (p (omega arith) (omega arith))
         | ones4 _ _ k _ ↦ absurd (p (omega arith) (omega arith))
-        | ones5 _ _ m ↦ sym (ap counted m)
+        | ones5 _ _ m ↦ ap counted m
       ]
+
+  pub led_few : leading_ones w8 b < 2 → counted (announced b) ≡ None
+  led_few f = unled (λ p q. omega arith)
+
+  pub led_many : 4 < leading_ones w8 b → counted (announced b) ≡ None
+  led_many f = unled (λ p q. omega arith)
