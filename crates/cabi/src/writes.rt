@@ -75,15 +75,11 @@ pub extern "C" fn hemgyost_path_write(
 fn lay_points(heap: Global, pairs: &[Pair]) -> Result<Vec<Point>, AllocError>
     ensures { IfOk result (λ v. v.items ≡ map point_of pairs.now) }
 {
-    let mut points = Vec::with_capacity(heap, pairs.len())?;
-    for pair in pairs {
-        points.push(lay_point(*pair))?;
-    }
-    Ok(points)
+    pairs.iter().map(lay_point).collect(heap)
 }
 
-fn lay_point(pair: Pair) -> Point
-    ensures { result ≡ point_of pair }
+fn lay_point(pair: &Pair) -> Point
+    ensures { result ≡ point_of pair.now }
 {
     Point::new(pair.x, pair.y)
 }
@@ -124,15 +120,11 @@ pub extern "C" fn hemgyost_hstore_write(
 fn lay_entries(heap: Global, rows: &[Parts]) -> Result<Vec<HstoreEntry>, AllocError>
     ensures { IfOk result (λ v. v.items ≡ map entry_of rows.now) }
 {
-    let mut entries = Vec::with_capacity(heap, rows.len())?;
-    for row in rows {
-        entries.push(lay_entry(*row))?;
-    }
-    Ok(entries)
+    rows.iter().map(lay_entry).collect(heap)
 }
 
-fn lay_entry(row: Parts) -> HstoreEntry
-    ensures { result ≡ entry_of row }
+fn lay_entry(row: &Parts) -> HstoreEntry
+    ensures { result ≡ entry_of row.now }
 {
     HstoreEntry {
         key: place(row.key, row.key_length),
