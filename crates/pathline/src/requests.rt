@@ -14,7 +14,6 @@ use listing::list::parse_list;
 use path::points::Points;
 use path::read::Path;
 use std::alloc::{AllocError, Global};
-use syntax::compare::same;
 use syntax::parse::{parse_bytes, split_at_first};
 
 // path_from_sql xB
@@ -63,11 +62,9 @@ pub fn path_to_sql(heap: Global, argument: &[u8]) -> Result<Vec<u8>, AllocError>
 fn parse_flag(word: &[u8]) -> Option<bool>
     ensures { result ≡ flag_in word.now }
 {
-    if same(word, b"0") {
-        Some(false)
-    } else if same(word, b"1") {
-        Some(true)
-    } else {
-        None
+    match word {
+        b"0" => Some(false),
+        b"1" => Some(true),
+        _ => None,
     }
 }
