@@ -1,5 +1,5 @@
 -- Writing the same once more.
-use Rattle.std.proofs.Common.{◌≡◌, ℕ, ◌≤◌, leb, List, ◌++◌, length, drop, Ok, Err, sym, refl, ap, ◌∙◌, arith}
+use Rattle.std.proofs.Common.{◌≡◌, ℕ, ◌≤◌, leb, List, ◌++◌, length, drop, Ok, Err, refl, ap, ◌∙◌, arith}
 use Rattle.std.proofs.lemmas.List.{length-append, length-drop, drop_at}
 use Rattle.std.proofs.lemmas.Bool.{cond_both, leb-true}
 use Rattle.fault.specs.declared.Rule.TheVariants.{NoRoom}
@@ -29,11 +29,5 @@ module _ (e : Encoding) (p was : List ℕ) (first : was ≡ laid (room_for (leng
   pub room_again : room_for (length was) e ≡ room_for (length p) e
   room_again = ap (λ n. room_for n e) (ap length first ∙ same_length e p)
 
-  pub stays : (at is : List ℕ) → at ≡ was → is ≡ laid (room_for (length at) e) at → is ≡ was
-  stays at is same h =
-      h
-      ∙ ap (λ q. laid (room_for (length q) e) q) same
-      ∙ ap (λ f. laid f was) room_again
-      ∙ ap (laid (room_for (length p) e)) first
-      ∙ laid_again e p
-      ∙ sym first
+  pub stays : (is : List ℕ) → is ≡ laid (room_for (length was) e) was → is ≡ laid (room_for (length p) e) p
+  stays is h = h ∙ ap (λ f. laid f was) room_again ∙ ap (laid (room_for (length p) e)) first ∙ laid_again e p

@@ -7,7 +7,7 @@ ghost use Rattle.hstore.specs.Encoding.{hstore_encoding};
 ghost use Rattle.path.specs.Layout.{path_encoding};
 ghost use Rattle.serializer.specs.Runs.{run_items};
 ghost use Rattle.texts.specs.Places.{pool_pair};
-ghost use Rattle.wire.specs.Encoding.{told, laid, room_for};
+ghost use Rattle.wire.specs.Encoding.{Encoding, told, laid, room_for};
 ghost use Rattle.cabi.specs.Sums.{number};
 ghost use Rattle.cabi.specs.Writes.{Wrote, dimension_of, point_of, place_of, entry_of};
 
@@ -67,7 +67,11 @@ pub extern "C" fn hemgyost_path_write(
     ensures { Wrote (room_for (length part.old) (path_encoding closed (map point_of pairs.now))) part.old result part.new }
 {
     match lay_points(heap, pairs) {
-        Ok(points) => to_number(write_points(closed, &points, again, part)),
+        Ok(points) => to_number(write_again(
+            |part| path_to_sql(closed, &points, part),
+            again,
+            part,
+        )),
         Err(_) => usize::MAX,
     }
 }
@@ -84,22 +88,6 @@ fn lay_point(pair: &Pair) -> Point
     Point::new(pair.x, pair.y)
 }
 
-fn write_points(
-    closed: bool,
-    points: &[Point],
-    again: usize,
-    part: &mut [u8],
-) -> Result<usize, Fault>
-    ensures answer { result ≡ told (room_for (length part.old) (path_encoding closed points.now)) }
-    ensures after { part.new ≡ laid (room_for (length part.old) (path_encoding closed points.now)) part.old }
-{
-    let mut size = path_to_sql(closed, points, part)?;
-    for _ in 0..again {
-        size = path_to_sql(closed, points, part)?;
-    }
-    Ok(size)
-}
-
 // Writes an hstore whose texts lie in one pool.
 #[unsafe(no_mangle)]
 pub extern "C" fn hemgyost_hstore_write(
@@ -112,7 +100,10 @@ pub extern "C" fn hemgyost_hstore_write(
     ensures { Wrote (room_for (length part.old) (hstore_encoding (pool.now, []) (map entry_of rows.now))) part.old result part.new }
 {
     match lay_entries(heap, rows) {
-        Ok(entries) => to_number(write_entries(Pools::new(pool, &[]), &entries, again, part)),
+        Ok(entries) => {
+            let pools = Pools::new(pool, &[]);
+            to_number(write_again(|part| hstore_to_sql(pools, &entries, part), again, part))
+        }
         Err(_) => usize::MAX,
     }
 }
@@ -142,18 +133,18 @@ fn place(start: usize, length: usize) -> Place
     })
 }
 
-fn write_entries(
-    pools: Pools<'_>,
-    entries: &[HstoreEntry],
+// One write, and `again` times more.
+fn write_again<F: Fn(&mut [u8]) -> Result<usize, Fault>>(
+    write: F,
     again: usize,
     part: &mut [u8],
 ) -> Result<usize, Fault>
-    ensures answer { result ≡ told (room_for (length part.old) (hstore_encoding (pool_pair pools.entry) entries.now)) }
-    ensures after { part.new ≡ laid (room_for (length part.old) (hstore_encoding (pool_pair pools.entry) entries.now)) part.old }
+    requires { F.IsAlwaysCallable write }
+    ensures { (e : Encoding) → ((p : _) (r : _) (q : _) → F.post write p r q → (r ≡ told (room_for (length p.now) e)) × (q.now ≡ laid (room_for (length p.now) e) p.now)) → (result ≡ told (room_for (length part.old) e)) × (part.new ≡ laid (room_for (length part.old) e) part.old) }
 {
-    let mut size = hstore_to_sql(pools, entries, part)?;
+    let mut size = write(part)?;
     for _ in 0..again {
-        size = hstore_to_sql(pools, entries, part)?;
+        size = write(part)?;
     }
     Ok(size)
 }
