@@ -9,12 +9,8 @@ use std::alloc::{AllocError, Global};
 pub fn split_at_first(text: &[u8], separator: u8) -> Option<(&[u8], &[u8])>
     ensures { seen_pair result ≡ split_at separator text.now }
 {
-    for (i, c) in text.iter().enumerate() {
-        if *c == separator {
-            return Some((&text[..i], &text[i + 1..]));
-        }
-    }
-    None
+    let at = text.iter().position(|c| *c == separator)?;
+    Some((&text[..at], &text[at + 1..]))
 }
 
 // A decimal number up to `most`: digits alone, and at least one.
