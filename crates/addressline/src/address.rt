@@ -7,7 +7,6 @@ ghost use Rattle.addressline.specs.Addresses.{version, address_text, address_of,
 
 use inet::address::{Inet, IpAddr};
 use std::alloc::{AllocError, Global};
-use syntax::compare::same;
 use syntax::parse::{parse_hex, parse_number, split_at_first};
 use syntax::print::{push_decimal, push_hex};
 use wire::word::Word;
@@ -69,13 +68,13 @@ fn parse_address(heap: Global, word: &[u8]) -> Result<Option<IpAddr>, AllocError
 fn from_octets(name: &[u8], bytes: &[u8]) -> Option<IpAddr>
     ensures { result ≡ address_of name.now bytes.now }
 {
-    if same(name, b"v4") && bytes.len() == 4 {
-        return Some(IpAddr::V4(u32::read(bytes, 0).ok()?));
+    match (name, bytes.len()) {
+        (b"v4", 4) => Some(IpAddr::V4(u32::read(bytes, 0).ok()?)),
+        (b"v6", 16) => {
+            let high = u64::read(bytes, 0).ok()?;
+            let low = u64::read(bytes, 8).ok()?;
+            Some(IpAddr::V6(high, low))
+        }
+        _ => None,
     }
-    if same(name, b"v6") && bytes.len() == 16 {
-        let high = u64::read(bytes, 0).ok()?;
-        let low = u64::read(bytes, 8).ok()?;
-        return Some(IpAddr::V6(high, low));
-    }
-    None
 }
