@@ -14,25 +14,23 @@ use answers::parts::push_parts;
 use answers::plain::{bad_request, push_flag, refusal};
 use answers::written::{blank_part, print_written};
 use arrayview::dimensions::Dimensions;
-use arrayview::read::Array;
+use arrayview::read::{self, Array};
 use arrayview::values::Values;
 use items::parse::parse_items;
+use lines::argument::on_bytes;
 use listing::list::parse_list;
 use std::alloc::{AllocError, Global};
-use syntax::parse::{parse_bytes, parse_number, split_at_first};
+use syntax::parse::{parse_number, split_at_first};
 use syntax::print::push_decimal;
 
 // array_from_sql xB
 pub fn array_from_sql(heap: Global, argument: &[u8]) -> Result<Vec<u8>, AllocError>
     ensures { IfOk result (λ v. v.items ≡ answered (λ bs. array_answer (array_recv bs)) (bytes_in argument.now)) }
 {
-    let Some(bytes) = parse_bytes(heap, argument)? else {
-        return bad_request(heap);
-    };
-    match arrayview::read::array_from_sql(&bytes) {
+    on_bytes(heap, argument, |bytes| match read::array_from_sql(bytes) {
         Ok(array) => print_array(heap, &array),
         Err(fault) => refusal(heap, fault),
-    }
+    })
 }
 
 // An opened array with all that its cursors give.

@@ -10,23 +10,21 @@ use crate::points::{PointNotation, PointTexts};
 use answers::parts::push_parts;
 use answers::plain::{bad_request, push_flag, refusal};
 use answers::written::{blank_part, print_written};
+use lines::argument::on_bytes;
 use listing::list::parse_list;
 use path::points::Points;
-use path::read::Path;
+use path::read::{self, Path};
 use std::alloc::{AllocError, Global};
-use syntax::parse::{parse_bytes, split_at_first};
+use syntax::parse::split_at_first;
 
 // path_from_sql xB
 pub fn path_from_sql(heap: Global, argument: &[u8]) -> Result<Vec<u8>, AllocError>
     ensures { IfOk result (λ v. v.items ≡ answered (λ bs. path_answer (path_recv bs)) (bytes_in argument.now)) }
 {
-    let Some(bytes) = parse_bytes(heap, argument)? else {
-        return bad_request(heap);
-    };
-    match path::read::path_from_sql(&bytes) {
+    on_bytes(heap, argument, |bytes| match read::path_from_sql(bytes) {
         Ok(path) => print_path(heap, &path),
         Err(fault) => refusal(heap, fault),
-    }
+    })
 }
 
 // An opened path with all that its cursor gives.

@@ -10,21 +10,20 @@ use crate::bounds::{parse_bound, push_bound};
 use answers::plain::{bad_request, refusal};
 use answers::written::{blank_part, print_written};
 use items::list::ItemList;
+use lines::argument::on_bytes;
 use range::bound::Range;
+use range::read;
 use std::alloc::{AllocError, Global};
-use syntax::parse::{parse_bytes, split_at_first};
+use syntax::parse::split_at_first;
 
 // range_from_sql xB
 pub fn range_from_sql(heap: Global, argument: &[u8]) -> Result<Vec<u8>, AllocError>
     ensures { IfOk result (λ v. v.items ≡ answered (λ bs. range_answer (range_recv bs)) (bytes_in argument.now)) }
 {
-    let Some(bytes) = parse_bytes(heap, argument)? else {
-        return bad_request(heap);
-    };
-    match range::read::range_from_sql(&bytes) {
+    on_bytes(heap, argument, |bytes| match read::range_from_sql(bytes) {
         Ok(range) => print_range(heap, range),
         Err(fault) => refusal(heap, fault),
-    }
+    })
 }
 
 fn print_range(heap: Global, range: Range<'_>) -> Result<Vec<u8>, AllocError>

@@ -9,20 +9,19 @@ use crate::words::{parse_double, parse_point, push_point};
 use answers::plain::{bad_request, refusal};
 use answers::written::{blank_part, print_written};
 use double::point::{Box, Point};
+use geometry::read;
+use lines::argument::on_bytes;
 use std::alloc::{AllocError, Global};
-use syntax::parse::{parse_bytes, split_at_first};
+use syntax::parse::split_at_first;
 
 // point_from_sql xB
 pub fn point_from_sql(heap: Global, argument: &[u8]) -> Result<Vec<u8>, AllocError>
     ensures { IfOk result (λ v. v.items ≡ answered (λ bs. point_answer (point_recv bs)) (bytes_in argument.now)) }
 {
-    let Some(bytes) = parse_bytes(heap, argument)? else {
-        return bad_request(heap);
-    };
-    match geometry::read::point_from_sql(&bytes) {
+    on_bytes(heap, argument, |bytes| match read::point_from_sql(bytes) {
         Ok(point) => print_point(heap, point),
         Err(fault) => refusal(heap, fault),
-    }
+    })
 }
 
 fn print_point(heap: Global, point: Point) -> Result<Vec<u8>, AllocError>
@@ -49,13 +48,10 @@ pub fn point_to_sql(heap: Global, argument: &[u8]) -> Result<Vec<u8>, AllocError
 pub fn box_from_sql(heap: Global, argument: &[u8]) -> Result<Vec<u8>, AllocError>
     ensures { IfOk result (λ v. v.items ≡ answered (λ bs. box_answer (box_recv bs)) (bytes_in argument.now)) }
 {
-    let Some(bytes) = parse_bytes(heap, argument)? else {
-        return bad_request(heap);
-    };
-    match geometry::read::box_from_sql(&bytes) {
+    on_bytes(heap, argument, |bytes| match read::box_from_sql(bytes) {
         Ok(corners) => print_box(heap, corners),
         Err(fault) => refusal(heap, fault),
-    }
+    })
 }
 
 fn print_box(heap: Global, corners: Box) -> Result<Vec<u8>, AllocError>

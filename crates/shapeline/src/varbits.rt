@@ -7,22 +7,20 @@ ghost use Rattle.shapeline.specs.Bits.{varbit_answer, varbit_written};
 
 use answers::plain::{bad_request, push_bytes, refusal};
 use answers::written::{blank_part, print_written};
+use lines::argument::on_bytes;
 use std::alloc::{AllocError, Global};
 use syntax::parse::{parse_bytes, parse_number, split_at_first};
 use syntax::print::push_decimal;
-use varbit::read::Varbit;
+use varbit::read::{self, Varbit};
 
 // varbit_from_sql xB
 pub fn varbit_from_sql(heap: Global, argument: &[u8]) -> Result<Vec<u8>, AllocError>
     ensures { IfOk result (λ v. v.items ≡ answered (λ bs. varbit_answer (varbit_recv bs)) (bytes_in argument.now)) }
 {
-    let Some(bytes) = parse_bytes(heap, argument)? else {
-        return bad_request(heap);
-    };
-    match varbit::read::varbit_from_sql(&bytes) {
+    on_bytes(heap, argument, |bytes| match read::varbit_from_sql(bytes) {
         Ok(bits) => print_bits(heap, &bits),
         Err(fault) => refusal(heap, fault),
-    }
+    })
 }
 
 fn print_bits(heap: Global, bits: &Varbit<'_>) -> Result<Vec<u8>, AllocError>
