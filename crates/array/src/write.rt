@@ -118,6 +118,7 @@ fn write_elements<S: Serializer>(
     ensures answer { result ≡ Ok (start + length (elements (values (S.Serializer.items serializer.now)))) }
     ensures after { part.new ≡ put start (elements (values (S.Serializer.items serializer.now))) part.old }
 {
+    // Each item tells its own length only when it is written, so the place is added up.
     let mut at = start;
     for k in 0..serializer.count() {
         at += write_nullable(serializer, k, &mut part[at..])?;

@@ -1,4 +1,5 @@
-//! Formats that are read whole.
+//! Formats that are read whole. Each validator is two lines around the reader of its format; a trait over
+//! the readers would say no less for each.
 ghost use Rattle.bottoms.specs.Verdicts.{int4_verdict, int8_verdict, text_verdict, point_verdict, box_verdict, varbit_verdict, inet_verdict};
 ghost use Rattle.bottoms.specs.Places.{int4_within, int8_within, text_within, point_within, box_within, varbit_within, inet_within};
 

@@ -41,7 +41,8 @@ impl Point {
     }
 }
 
-// Coordinates are equal when their words are: 0.0 is not -0.0, and NaN is NaN.
+// Coordinates are equal when their words are: 0.0 is not -0.0, and NaN is NaN. A derived equality would
+// be that of doubles.
 impl PartialEq for Point {
     ghost eq = { same_point };
 
@@ -85,6 +86,7 @@ impl Box {
     }
 }
 
+// By hand, since a derived equality has no clause that names the words.
 impl PartialEq for Box {
     ghost eq = { same_box };
 

@@ -50,6 +50,7 @@ impl From<Point> for PointWords {
     }
 }
 
+// The kinds of one word stay apart: each is its size and one call of `put`.
 impl Element for i32 {
     ghost value = { int4 };
 

@@ -24,6 +24,7 @@ pub fn box_from_sql(buf: &[u8]) -> Result<Box, Fault>
     read_box(buf)
 }
 
+// Like a whole word in `scalar`, but a point is no word of a width.
 fn read_point(buf: &[u8]) -> Result<Point, Fault>
     ensures { result ≡ point_recv buf.now }
 {

@@ -16,6 +16,7 @@ pub fn inet_from_sql(buf: &[u8]) -> Result<Inet, Fault>
     if buf.len() < 4 {
         return Err(Fault::new(Rule::Truncated, buf.len()));
     }
+    // The families by the numbers of the format, which stand here and in `IpAddr::family` alone.
     match buf[0] {
         2 => {
             let netmask = read_netmask(buf, 32, 4)?;

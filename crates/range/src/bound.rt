@@ -23,7 +23,7 @@ impl<T> RangeBound<T> {
     }
 }
 
-// A range that was read.
+// A range that was read, with the name and the cases that the crate gives it, and so no Option.
 #[derive(Clone, Copy)]
 pub enum Range<'a> {
     Empty,

@@ -32,7 +32,7 @@ pub fn test_positive(bytes: &[u8]) -> Result<(), Fault>
     Err(refused())
 }
 
-// The number is not above 0.
+// The number is not above 0. Each example of a fault of one's own stands by itself.
 fn refused() -> Fault
     ensures { result ≡ not_above }
 {

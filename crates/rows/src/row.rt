@@ -8,7 +8,8 @@ pub struct ArrayRow {
     pub count: u16,
 }
 
-// The empty range, or a range whose bounds name items below.
+// The empty range, or a range whose bounds name items below. Its cases are those of `Range`; an Option
+// of a pair would not say that none is the empty range.
 #[derive(Clone, Copy)]
 pub enum RangeRow {
     Empty,

@@ -64,6 +64,10 @@ pub tested : (r : Bool) (n : ℕ) → 0 < n → then_some r n ≡ counted (cond 
 tested true n h = sym (some_counted n h)
 tested false n h = refl
 
+-- C0 and C1 begin no shortest form
+pub overlong : (b : ℕ) (rest : List ℕ) → 0xC0 ≤ b → b < 0xC2 → character (b ∷ rest) ≡ 0
+overlong b rest l u = not_two (b ∷ rest) (l, omega arith) (λ _ t. omega arith)
+
 module _ (bs : List ℕ) (at : ℕ) where
   next : (k : ℕ) → at + k < length bs → drop (at + k) bs ≡ get_or bs (at + k) 0 ∷ drop (at + (k + 1)) bs
   next k h = drop_more bs (at + k) 0 h ∙ ap (λ n. get_or bs (at + k) 0 ∷ drop n bs) (add_assoc at k 1)

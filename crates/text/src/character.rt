@@ -27,6 +27,10 @@ fn character_length(bytes: &[u8], at: usize) -> Option<usize>
         return Some(1);
     }
     let length = sequence_length(first)?;
+    // No shortest form begins with C0 or C1.
+    if first == 0xC0 || first == 0xC1 {
+        return None;
+    }
     if bytes.len() - at < length {
         return None;
     }
@@ -49,8 +53,6 @@ fn sequence_length(first: u8) -> Option<usize>
         _ => None,
     }
 }
-
-// Kept apart: one loop over the octets behind the first, whose number varies, is slower.
 
 // Whether the octets are a character; the first is one that announces two.
 fn two_octets(first: u8, second: u8) -> bool

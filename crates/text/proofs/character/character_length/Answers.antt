@@ -1,9 +1,9 @@
-use Rattle.std.proofs.Common.{◌≡◌, ◌+◌, ◌∷◌, get_or, drop, sym, ap, ◌∙◌, arith}
+use Rattle.std.proofs.Common.{◌≡◌, ◌+◌, ◌∷◌, get_or, drop, sym, ap, ◌∙◌, ⊎_elim, arith}
 use Rattle.std.proofs.lemmas.List.{drop_all, drop_more, length-drop}
 use Rattle.std.specs.Bool.{then_some}
 use Rattle.text.specs.Octets.{announced, counted}
 use Rattle.text.specs.Recv.{character}
-use Rattle.text.proofs.Leads.{too_short, no_lead, lead_four, uncounted, counted_is, tested, drop_two, drop_three, drop_four}
+use Rattle.text.proofs.Leads.{too_short, no_lead, lead_four, uncounted, counted_is, tested, overlong, drop_two, drop_three, drop_four}
 use Rattle.text.proofs.Rows.{is_one}
 use Rattle.text.proofs.character.character_length.Goals as goal
 use Rattle.text.proofs.character.character_length.Goals.{in-2, in-3, in_default}
@@ -25,6 +25,14 @@ returns-in_err-length c =
     let first = get_or bs at 0 in
     c.from_residual.ensures ∙ sym (ap counted (ap character (drop_more bs at 0 c.if-at-bytes.false)
     ∙ no_lead first (drop (at + 1) bs) (omega (arith, c.type_inv.bytes at)) (uncounted (announced first) c.in_err-length.ensures)))
+
+pub returns-then-first : goal.returns-then-first
+returns-then-first c =
+    let bs = c.args.bytes.now in
+    let at = c.args.at in
+    let rest = drop (at + 1) bs in
+    sym (ap counted (ap character (drop_more bs at 0 c.if-at-bytes.false)
+    ∙ ⊎_elim (λ e. overlong (get_or bs at 0) rest (omega arith) (omega arith)) (λ e. overlong (get_or bs at 0) rest (omega arith) (omega arith)) c.then-first.either))
 
 pub returns-then-bytes-at : goal.returns-then-bytes-at
 returns-then-bytes-at c =
