@@ -63,6 +63,7 @@ impl Protocol for Wide {
     }
 
     fn answer_alone(heap: Global, word: &[u8]) -> Result<Vec<u8>, AllocError> {
+        // No `match`: on so long a word it would be proved branch by branch, one for each byte.
         if same(word, b"empty_range_to_sql") {
             empty_range_to_sql(heap)
         } else {
