@@ -1,20 +1,15 @@
 -- From what a call answers to an answer.
-use Rattle.std.proofs.Common.{◌≡◌, ℕ, min, List, length, take, drop, IfOk, Some, Ok, Err, Option, Result, sym, refl, ap, ◌∙◌, ⊎_elim, arith}
+use Rattle.std.proofs.Common.{◌≡◌, ℕ, min, List, length, take, drop, IfOk, Ok, Err, Result, sym, refl, ap, ◌∙◌, ⊎_elim, arith}
 use Rattle.std.proofs.lemmas.List.{take_all, take_at}
 use Rattle.std.proofs.lemmas.Result.{IfOk-weaker}
 use Rattle.std.proofs.lemmas.Bool.{cases_lt}
-use Rattle.std.specs.Option.{option_map}
 use Rattle.fault.specs.declared.Fault.{Fault}
 use Rattle.wire.specs.Encoding.{Encoding, told, laid}
-use Rattle.answers.specs.Plain.{answered, held}
+use Rattle.answers.specs.Plain.{held}
 
 -- the same text by another name
 pub says : {X Y : Type 0} (items : X → List ℕ) (r : Result X Y) (xs ys : List ℕ) → xs ≡ ys → IfOk r (λ v. items v ≡ xs) → IfOk r (λ v. items v ≡ ys)
 says items r xs ys e = IfOk-weaker r _ _ (λ v p. p ∙ e)
-
--- the bytes that an argument is
-pub on_some : {X : Type 0} (answer : List ℕ → List ℕ) (items : X → List ℕ) {o : Option X} {argument : Option (List ℕ)} (v : X) {bs : List ℕ} → option_map items o ≡ argument → o ≡ Some v → bs ≡ items v → answered answer argument ≡ answer bs
-on_some answer items v read is lent = ap (answered answer) (sym read ∙ ap (option_map items) is) ∙ ap answer (sym lent)
 
 -- a part holds what its encoder wrote
 held_laid : (e : Encoding) (before : List ℕ) → held (told e) (laid e before) ≡ e
