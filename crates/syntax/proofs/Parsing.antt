@@ -1,6 +1,6 @@
 -- Words that are read step by step.
-use Rattle.std.proofs.Common.{◌≡◌, ℕ, zero, suc, ◌+◌, ◌-◌, ◌*◌, ◌%◌, ◌<◌, ◌≤◌, false, ◌&&◌, eqb, leb, List, [], ◌∷◌, ◌++◌, length, get_or, take, drop, Some, None, Option, sym, refl, ap, ◌∙◌, ⊎_elim, arith}
-use Rattle.std.proofs.lemmas.List.{append_assoc, append-nil, drop_more, at_drop_more, at_drop_all}
+use Rattle.std.proofs.Common.{◌≡◌, ℕ, zero, suc, ◌+◌, ◌-◌, ◌*◌, ◌<◌, ◌≤◌, false, ◌&&◌, eqb, leb, List, [], ◌∷◌, ◌++◌, length, get_or, take, drop, Some, None, Option, sym, refl, ap, ◌∙◌, ⊎_elim, arith}
+use Rattle.std.proofs.lemmas.List.{append_assoc, at_drop_more, at_drop_all}
 use Rattle.std.proofs.lemmas.Bool.{false≢true, cond-true, cond-false, cond_both, eq-eqb, ne_eqb, cases_Bool, leb-false, lt-leb}
 use Rattle.std.proofs.lemmas.Slice.{between_to_end}
 use Rattle.std.specs.List.{between}
@@ -71,47 +71,16 @@ module _ (cs : List ℕ) (n i : ℕ) (inv : number_after (Some n) (drop i cs) �
   pub number_end : (most : ℕ) → length cs ≤ i → false ≡ eqb (length cs) 0 → number_in most cs ≡ at_most most (Some n)
   number_end most h some = some_digits most cs some ∙ ap (at_most most) (sym inv ∙ at_drop_all (number_after (Some n)) cs i h)
 
--- digits come in pairs
-pub unhex_odd : (ds : List ℕ) → (length ds % 2 ≡ 0 → ⊥) → unhex ds ≡ None
-unhex_odd [] odd = absurd (odd refl)
-unhex_odd (a ∷ []) odd = refl
-unhex_odd (a ∷ b ∷ ds) odd = ap (in_front _) (unhex_odd ds (λ e. odd (omega arith))) ∙ none_behind (byte_of (nibble a) (nibble b))
-  where
-    none_behind : (o : Option ℕ) → in_front o None ≡ None
-    none_behind (Some b) = refl
-    none_behind None = refl
-
-pair_at : (ds : List ℕ) (i : ℕ) → 2 * i + 1 < length ds → drop (2 * i) ds ≡ get_or ds (2 * i) 0 ∷ get_or ds (2 * i + 1) 0 ∷ drop (2 * (i + 1)) ds
-pair_at ds i h =
-    drop_more ds (2 * i) 0 (omega arith)
-    ∙ ap (λ l. get_or ds (2 * i) 0 ∷ l) (drop_more ds (2 * i + 1) 0 h)
-    ∙ ap (λ n. get_or ds (2 * i) 0 ∷ get_or ds (2 * i + 1) 0 ∷ drop n ds) (omega arith)
-
 -- a byte that is read goes behind the others
-pub unhex_more : (bs ds : List ℕ) (i b : ℕ) → 2 * i + 1 < length ds → Some b ≡ byte_of (nibble (get_or ds (2 * i) 0)) (nibble (get_or ds (2 * i + 1) 0))
-    → option_map (λ cs. bs ++ cs) (unhex (drop (2 * i) ds)) ≡ option_map (λ cs. (bs ++ (b ∷ [])) ++ cs) (unhex (drop (2 * (i + 1)) ds))
-unhex_more bs ds i b h e =
-    ap (λ l. option_map (λ cs. bs ++ cs) (unhex l)) (pair_at ds i h)
-    ∙ ap (λ o. option_map (λ cs. bs ++ cs) (in_front o (unhex (drop (2 * (i + 1)) ds)))) (sym e)
-    ∙ behind (unhex (drop (2 * (i + 1)) ds))
+pub unhex_more : (bs ds : List ℕ) (x : ℕ) → 1 < length ds → Some x ≡ byte_of (nibble (get_or ds 0 0)) (nibble (get_or ds 1 0))
+    → option_map (λ cs. bs ++ cs) (unhex ds) ≡ option_map (λ cs. (bs ++ (x ∷ [])) ++ cs) (unhex (drop 2 ds))
+unhex_more bs [] x h e = absurd (omega arith)
+unhex_more bs (a ∷ []) x h e = absurd (omega arith)
+unhex_more bs (a ∷ b ∷ ds) x h e = ap (λ o. option_map (λ cs. bs ++ cs) (in_front o (unhex ds))) (sym e) ∙ behind (unhex ds)
   where
-    behind : (o : Option (List ℕ)) → option_map (λ cs. bs ++ cs) (in_front (Some b) o) ≡ option_map (λ cs. (bs ++ (b ∷ [])) ++ cs) o
-    behind (Some cs) = ap Some (sym (append_assoc bs (b ∷ []) cs))
+    behind : (o : Option (List ℕ)) → option_map (λ cs. bs ++ cs) (in_front (Some x) o) ≡ option_map (λ cs. (bs ++ (x ∷ [])) ++ cs) o
+    behind (Some cs) = ap Some (sym (append_assoc bs (x ∷ []) cs))
     behind None = refl
-
-pub unhex_end : (bs ds : List ℕ) (i : ℕ) → length ds ≤ 2 * i → option_map (λ cs. bs ++ cs) (unhex (drop (2 * i) ds)) ≡ Some bs
-unhex_end bs ds i h = at_drop_all (λ l. option_map (λ cs. bs ++ cs) (unhex l)) ds (2 * i) h ∙ ap Some (append-nil bs)
-
-pub unhex_none : (bs ds : List ℕ) (i : ℕ) → 2 * i + 1 < length ds → None ≡ byte_of (nibble (get_or ds (2 * i) 0)) (nibble (get_or ds (2 * i + 1) 0))
-    → option_map (λ cs. bs ++ cs) (unhex (drop (2 * i) ds)) ≡ None
-unhex_none bs ds i h e =
-    ap (λ l. option_map (λ cs. bs ++ cs) (unhex l)) (pair_at ds i h)
-    ∙ ap (λ o. option_map (λ cs. bs ++ cs) (in_front o (unhex (drop (2 * (i + 1)) ds)))) (sym e)
-    ∙ nothing (unhex (drop (2 * (i + 1)) ds))
-  where
-    nothing : (o : Option (List ℕ)) → option_map (λ cs. bs ++ cs) (in_front None o) ≡ None
-    nothing (Some cs) = refl
-    nothing None = refl
 
 -- the digits of a byte string
 pub bytes_marked : (word : List ℕ) → 0 < length word → get_or word 0 0 ≡ 120 → unhex (between 1 (length word) word) ≡ bytes_in word

@@ -42,17 +42,16 @@ fn append_digit(n: u64, c: u8) -> Option<u64>
 pub fn parse_hex(heap: Global, digits: &[u8]) -> Result<Option<Vec<u8>>, AllocError>
     ensures { IfOk result (λ o. option_map vec_items o ≡ unhex digits.now) }
 {
-    if digits.len() % 2 != 0 {
-        return Ok(None);
-    }
     let mut bytes = Vec::with_capacity(heap, digits.len() / 2)?;
-    for i in 0..digits.len() / 2 {
-        match hex_byte(digits[2 * i], digits[2 * i + 1]) {
+    let mut rest = digits;
+    while let [high, low, behind @ ..] = rest {
+        match hex_byte(*high, *low) {
             Some(b) => bytes.push(b)?,
             None => return Ok(None),
         }
+        rest = behind;
     }
-    Ok(Some(bytes))
+    Ok(rest.is_empty().then_some(bytes))
 }
 
 // The byte of two digits.
