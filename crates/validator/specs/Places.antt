@@ -9,14 +9,13 @@ use Rattle.fault.specs.declared.Rule.TheVariants.{Truncated, Overrun, Trailing, 
 use Rattle.fault.specs.Faults.{fault}
 use Rattle.wire.specs.Cursor.{State, Reader, Answer, failed, taken, step, before, sized, read_nullable}
 use Rattle.wire.specs.Items.{nullable}
-use Rattle.wire.specs.Words.{Value, then, word, uint_at, signed, i32_at, u8_at, u32_at, natural, count_at, value_of, value_at}
+use Rattle.wire.specs.Words.{Value, then, ended, word, uint_at, signed, i32_at, u8_at, u32_at, natural, count_at, value_of, value_at}
 use Rattle.wire.proofs.Taking.{then_ok, passed, uint_ok, i32_ok, count_ok}
 use Rattle.array.specs.Recv.{Opened, opened_with, product_at, product_from, array_recv, at_values}
 use Rattle.range.specs.declared.bound.RangeBound.{RangeBound}
 use Rattle.range.specs.declared.bound.RangeBound.TheVariants.{Inclusive, Exclusive, Unbounded}
 use Rattle.range.specs.Layout.{bound}
 use Rattle.range.specs.Recv.{Content, has, kind, bound_at, tagged, range_recv}
-use Rattle.range.specs.Recv as range
 use Rattle.validator.specs.Verdicts.{Outcome, Verdict, Within, from_below, handed, stepped, steps, to_end, array_verdict, side_handed, sides_handed, range_verdict}
 
 -- a fault's place is at most n
@@ -161,7 +160,7 @@ module _ (tag inclusive unbounded : ℕ) (bs : List ℕ) (at : ℕ) (h : at ≤ 
       let pair : ◌≡◌ {A = RangeBound Value × ℕ} (kind (has inclusive tag) t.0, at + length (nullable t.0)) p = let q = t.2 in cc in
       subst (λ q. (q.1 ≡ at + length (bound q.0)) × (q.1 ≤ length bs)) pair (ap (λ n. at + n) (sym (kind_length (has inclusive tag) t.0)), fits)
 
-ended_lies : {X : Type 0} (bs : List ℕ) (at : ℕ) (x : X) → at ≤ length bs → Lies (length bs) (range.ended bs at x)
+ended_lies : {X : Type 0} (bs : List ℕ) (at : ℕ) (x : X) → at ≤ length bs → Lies (length bs) (ended bs at x)
 ended_lies bs at x h = cond_both (nat_lt at (length bs)) (Err (fault Trailing at)) (Ok x) (Lies (length bs)) (λ _. h) (λ _. tt)
 
 ended_ok : {X : Type 0} (b : Bool) (f : Fault) (x y : X) → cond b (Err f) (Ok x) ≡ Ok y → x ≡ y
@@ -170,19 +169,19 @@ ended_ok false f x y e = cc
 
 -- both bounds, by the tag
 abbrev both : List ℕ → ℕ → Result Content Fault
-both bs tag = then (bound_at tag 2 8 bs 1) (λ l. then (bound_at tag 4 16 bs l.1) (λ u. range.ended bs u.1 (Some (l.0, u.0))))
+both bs tag = then (bound_at tag 2 8 bs 1) (λ l. then (bound_at tag 4 16 bs l.1) (λ u. ended bs u.1 (Some (l.0, u.0))))
 
 range_lies : (bs : List ℕ) → Lies (length bs) (range_recv bs)
 range_lies bs =
     then_lies (length bs) (u8_at bs 0) (tagged bs) (uint_lies 1 bs 0 (omega arith)) (λ tag e.
     let one : 1 ≤ length bs = (uint_ok 1 bs 0 tag e).0 in
-    cond_both (has 1 tag) (range.ended bs 1 None) (both bs tag) (Lies (length bs)) (λ _. ended_lies bs 1 None one) (λ _.
+    cond_both (has 1 tag) (ended bs 1 None) (both bs tag) (Lies (length bs)) (λ _. ended_lies bs 1 None one) (λ _.
     then_lies (length bs) (bound_at tag 2 8 bs 1) _ (bound_lies tag 2 8 bs 1 one) (λ l d.
     let first = bound_there tag 2 8 bs 1 one (has 8 tag) l d in
     then_lies (length bs) (bound_at tag 4 16 bs l.1) _ (bound_lies tag 4 16 bs l.1 first.1) (λ u f.
     ended_lies bs u.1 _ (bound_there tag 4 16 bs l.1 first.1 (has 16 tag) u f).1))))
 
-sides_by : (bs : List ℕ) (tag : ℕ) (l u : RangeBound Value) (b : Bool) → 1 ≤ length bs → cond b (range.ended bs 1 None) (both bs tag) ≡ Ok (Some (l, u)) → 1 + length (bound l) + length (bound u) ≤ length bs
+sides_by : (bs : List ℕ) (tag : ℕ) (l u : RangeBound Value) (b : Bool) → 1 ≤ length bs → cond b (ended bs 1 None) (both bs tag) ≡ Ok (Some (l, u)) → 1 + length (bound l) + length (bound u) ≤ length bs
 sides_by bs tag l u true one e = let q = ended_ok (nat_lt 1 (length bs)) (fault Trailing 1) None (Some (l, u)) e in let z : ◌≡◌ {A = ℕ} 0 1 = cc in absurd (omega arith)
 sides_by bs tag l u false one e =
     let a = then_ok (bound_at tag 2 8 bs 1) _ (Some (l, u)) e in
