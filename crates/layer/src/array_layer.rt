@@ -1,10 +1,10 @@
 //! The array layer.
 ghost use Rattle.std.specs.Prelude.{◌≡◌, ℕ, [], ◌∷◌, pos};
-ghost use Rattle.rows.specs.Rows.{array_row};
+ghost use Rattle.rows.specs.Rows.{array_layer, array_row, rows_short};
 ghost use Rattle.rows.specs.Tables.{rows_of, told_added, added};
 
 use crate::row_kind::RowKind;
-use crate::table_layer::TableLayer;
+use crate::table_layer::{row_size, write_row};
 use array::dimension::ArrayDimension;
 use array::write::{array_size, array_to_sql};
 use fault::Fault;
@@ -12,7 +12,7 @@ use rows::row::ArrayRow;
 use rows::table::Table;
 use rows::window::Window;
 use serializer::serializer::Serializer;
-use wire::oid::Oid;
+use wire::oid::{IsNull, Oid};
 
 // Arrays of items below, with an element OID of the layer's own.
 #[derive(Clone, Copy, Drop)]
@@ -21,13 +21,18 @@ pub struct Arrays {
 }
 
 // Arrays of items below, one to a row.
-pub type ArrayLayer<S> = TableLayer<S, Arrays>;
+#[derive(Drop)]
+pub struct ArrayLayer<S> {
+    inner: S,
+    kind: Arrays,
+    table: Table<ArrayRow>,
+}
 
-impl<S> TableLayer<S, Arrays> {
+impl<S> ArrayLayer<S> {
     pub fn new(inner: S, oid: Oid) -> ArrayLayer<S>
         ensures { (result.inner ≡ inner) × (result.kind.oid ≡ oid) × (rows_of result.table ≡ []) }
     {
-        TableLayer {
+        ArrayLayer {
             inner,
             kind: Arrays { oid },
             table: Table::new(ArrayRow { first: 0, count: 0 }),
@@ -41,6 +46,24 @@ impl<S> TableLayer<S, Arrays> {
         ensures same { (self.new.inner ≡ self.old.inner) × (self.new.kind ≡ self.old.kind) }
     {
         self.table.add(ArrayRow { first, count })
+    }
+}
+
+impl<S: Serializer> Serializer for ArrayLayer<S> {
+    ghost items = { λ l. array_layer l.kind.oid (rows_of l.table) (S.Serializer.items l.inner) };
+
+    ghost short = { λ l. rows_short (array_row l.kind.oid (S.Serializer.items l.inner)) (rows_of l.table) };
+
+    fn count(&self) -> usize {
+        self.table.len()
+    }
+
+    fn size(&self, k: usize) -> Result<Option<usize>, Fault> {
+        row_size(&self.inner, &self.kind, &self.table, k)
+    }
+
+    fn write(&self, k: usize, part: &mut [u8]) -> Result<IsNull, Fault> {
+        write_row(&self.inner, &self.kind, &self.table, k, part)
     }
 }
 

@@ -4,4 +4,4 @@
 pub mod array_layer;
 pub mod range_layer;
 pub mod row_kind;
-pub mod table_layer;
+mod table_layer;

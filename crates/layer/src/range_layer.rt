@@ -1,11 +1,11 @@
 //! The range layer.
 ghost use Rattle.std.specs.Prelude.{◌≡◌, []};
 ghost use Rattle.rows.specs.declared.row.RangeRow.TheVariants.{Empty, Bounds};
-ghost use Rattle.rows.specs.Rows.{range_row};
+ghost use Rattle.rows.specs.Rows.{range_layer, range_row, rows_short};
 ghost use Rattle.rows.specs.Tables.{rows_of, told_added, added};
 
 use crate::row_kind::RowKind;
-use crate::table_layer::TableLayer;
+use crate::table_layer::{row_size, write_row};
 use fault::Fault;
 use range::bound::RangeBound;
 use range::write::{empty_range_to_sql, range_size, range_to_sql};
@@ -13,19 +13,25 @@ use rows::row::RangeRow;
 use rows::table::Table;
 use rows::window::Window;
 use serializer::serializer::Serializer;
+use wire::oid::IsNull;
 
 // Ranges of items below.
 #[derive(Clone, Copy, Drop)]
 pub struct Ranges;
 
 // Ranges of items below, one to a row.
-pub type RangeLayer<S> = TableLayer<S, Ranges>;
+#[derive(Drop)]
+pub struct RangeLayer<S> {
+    inner: S,
+    kind: Ranges,
+    table: Table<RangeRow>,
+}
 
-impl<S> TableLayer<S, Ranges> {
+impl<S> RangeLayer<S> {
     pub fn new(inner: S) -> RangeLayer<S>
         ensures { (result.inner ≡ inner) × (rows_of result.table ≡ []) }
     {
-        TableLayer {
+        RangeLayer {
             inner,
             kind: Ranges,
             table: Table::new(RangeRow::Empty),
@@ -48,6 +54,24 @@ impl<S> TableLayer<S, Ranges> {
         ensures same { self.new.inner ≡ self.old.inner }
     {
         self.table.add(RangeRow::Bounds(lower, upper))
+    }
+}
+
+impl<S: Serializer> Serializer for RangeLayer<S> {
+    ghost items = { λ l. range_layer (rows_of l.table) (S.Serializer.items l.inner) };
+
+    ghost short = { λ l. rows_short (range_row (S.Serializer.items l.inner)) (rows_of l.table) };
+
+    fn count(&self) -> usize {
+        self.table.len()
+    }
+
+    fn size(&self, k: usize) -> Result<Option<usize>, Fault> {
+        row_size(&self.inner, &self.kind, &self.table, k)
+    }
+
+    fn write(&self, k: usize, part: &mut [u8]) -> Result<IsNull, Fault> {
+        write_row(&self.inner, &self.kind, &self.table, k, part)
     }
 }
 
