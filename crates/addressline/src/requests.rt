@@ -12,24 +12,44 @@ use answers::plain::{bad_request, refusal};
 use answers::written::print_written;
 use fault::Fault;
 use inet::address::Inet;
-use lines::argument::on_bytes;
+use lines::argument::{Reading, on_bytes};
 use std::alloc::{AllocError, Global};
 
 pub fn text_from_sql(heap: Global, argument: &[u8]) -> Result<Vec<u8>, AllocError>
     ensures { IfOk result (λ v. v.items ≡ answered (λ bs. text_answer (text_recv bs)) (bytes_in argument.now)) }
 {
-    on_bytes(heap, argument, |bytes| match text::text_from_sql(bytes) {
-        Ok(_) => Vec::from_slice(heap, b"text ok"),
-        Err(fault) => refusal(heap, fault),
-    })
+    on_bytes::<ReadText>(heap, argument)
+}
+
+// A text.
+struct ReadText;
+
+impl Reading for ReadText {
+    ghost says = { λ bs. text_answer (text_recv bs) };
+
+    fn answer(heap: Global, bytes: &[u8]) -> Result<Vec<u8>, AllocError> {
+        match text::text_from_sql(bytes) {
+            Ok(_) => Vec::from_slice(heap, b"text ok"),
+            Err(fault) => refusal(heap, fault),
+        }
+    }
 }
 
 pub fn inet_from_sql(heap: Global, argument: &[u8]) -> Result<Vec<u8>, AllocError>
     ensures { IfOk result (λ v. v.items ≡ answered (λ bs. inet_answer (inet_recv bs)) (bytes_in argument.now)) }
 {
-    on_bytes(heap, argument, |bytes| {
+    on_bytes::<ReadInet>(heap, argument)
+}
+
+// An address with its mask.
+struct ReadInet;
+
+impl Reading for ReadInet {
+    ghost says = { λ bs. inet_answer (inet_recv bs) };
+
+    fn answer(heap: Global, bytes: &[u8]) -> Result<Vec<u8>, AllocError> {
         print_inet(heap, inet::read::inet_from_sql(bytes))
-    })
+    }
 }
 
 fn print_inet(heap: Global, read: Result<Inet, Fault>) -> Result<Vec<u8>, AllocError>

@@ -8,7 +8,21 @@ ghost use Rattle.answers.specs.Parts.{ShownBy, comma, part_text, goes_on, parts_
 use crate::plain::push_failure;
 use fault::Fault;
 use std::alloc::AllocError;
+use std::marker::PhantomData;
 use wire::cursor::{Cursor, Part};
+
+// A cursor over the parts of a value, each as its text.
+pub trait Parts {
+    ghost state: { Self → State };
+
+    // The texts of parts, read at a place.
+    ghost reads: { Reader (List ℕ) };
+
+    // Prints the next part or the fault, behind a comma unless it is the first; answers whether another
+    // may follow. A fault once met is met again.
+    fn push_part(&mut self, out: &mut Vec<u8>, first: bool) -> Result<bool, AllocError>
+        ensures { IfOk result (λ b. (out.new.items ≡ out.old.items ++ part_text first (step reads (state self.old)).0) × (b ≡ goes_on (step reads (state self.old)).0) × (state self.new ≡ (step reads (state self.old)).1)) };
+}
 
 // How parts of a kind are printed.
 pub trait PartText<'a, P: Part<'a>> {
@@ -25,45 +39,57 @@ pub trait PartText<'a, P: Part<'a>> {
     ghost shows: { (s : State) (a : Result (Option P.Item) Fault) → told_next P.seen a ≡ (step P.reader s).0 → ShownBy text reads s a (step P.reader s).1 };
 }
 
+// What a cursor over parts of a kind gives, each part as its text.
+#[derive_where(Clone, Copy)]
+pub struct CursorTexts<'a, P, T> {
+    pub cursor: Cursor<'a, P>,
+    texts: PhantomData<T>,
+}
+
+impl<'a, P, T> CursorTexts<'a, P, T> {
+    pub fn new(cursor: Cursor<'a, P>) -> CursorTexts<'a, P, T>
+        ensures { result.cursor ≡ cursor.entry }
+    {
+        CursorTexts {
+            cursor,
+            texts: PhantomData,
+        }
+    }
+}
+
+impl<'a, P: Part<'a>, T: PartText<'a, P>> Parts for CursorTexts<'a, P, T> {
+    ghost state = { λ c. state c.cursor };
+
+    ghost reads = { T.reads };
+
+    fn push_part(&mut self, out: &mut Vec<u8>, first: bool) -> Result<bool, AllocError> {
+        match self.cursor.next() {
+            Ok(Some(item)) => {
+                push_comma(out, first)?;
+                T::push(out, item)?;
+                Ok(true)
+            }
+            Ok(None) => Ok(false),
+            Err(fault) => {
+                push_comma(out, first)?;
+                push_failure(out, fault)?;
+                Ok(false)
+            }
+        }
+    }
+}
+
 // Prints what a cursor gives up to its end or its first fault, as a list.
-pub fn push_parts<'a, P: Part<'a>, T: PartText<'a, P>>(
-    out: &mut Vec<u8>,
-    cursor: Cursor<'a, P>,
-) -> Result<(), AllocError>
-    ensures { OnOk result (out.new.items ≡ out.old.items ++ parts_text T.reads (state cursor.entry)) }
+pub fn push_parts<P: Parts>(out: &mut Vec<u8>, parts: &mut P) -> Result<(), AllocError>
+    ensures { OnOk result (out.new.items ≡ out.old.items ++ parts_text P.Parts.reads (P.Parts.state parts.old)) }
 {
-    let mut parts = cursor;
     out.push(b'[')?;
     let mut first = true;
-    while push_part::<P, T>(out, &mut parts, first)? {
+    while parts.push_part(out, first)? {
         first = false;
     }
     out.push(b']')?;
     Ok(())
-}
-
-// Prints the next part or the fault, behind a comma unless it is the first; answers whether another
-// may follow.
-fn push_part<'a, P: Part<'a>, T: PartText<'a, P>>(
-    out: &mut Vec<u8>,
-    parts: &mut Cursor<'a, P>,
-    first: bool,
-) -> Result<bool, AllocError>
-    ensures { IfOk result (λ b. (out.new.items ≡ out.old.items ++ part_text first (step T.reads (state parts.old)).0) × (b ≡ goes_on (step T.reads (state parts.old)).0) × (state parts.new ≡ (step T.reads (state parts.old)).1)) }
-{
-    match parts.next() {
-        Ok(Some(item)) => {
-            push_comma(out, first)?;
-            T::push(out, item)?;
-            Ok(true)
-        }
-        Ok(None) => Ok(false),
-        Err(fault) => {
-            push_comma(out, first)?;
-            push_failure(out, fault)?;
-            Ok(false)
-        }
-    }
 }
 
 fn push_comma(out: &mut Vec<u8>, first: bool) -> Result<(), AllocError>

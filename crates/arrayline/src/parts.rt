@@ -6,7 +6,7 @@ ghost use Rattle.array.specs.Recv.{read_dimension};
 ghost use Rattle.wire.specs.Cursor.{read_nullable};
 ghost use Rattle.arrayline.specs.Arrays.{dimension_text};
 
-use answers::parts::PartText;
+use answers::parts::{CursorTexts, PartText};
 use answers::plain::{push_signed, push_value};
 use array::dimension::ArrayDimension;
 use arrayview::dimensions::Dimensions;
@@ -14,9 +14,9 @@ use arrayview::values::Values;
 use std::alloc::AllocError;
 
 // A dimension as LENGTH:LOWER.
-pub struct DimensionTexts;
+pub struct DimensionText;
 
-impl<'a> PartText<'a, Dimensions> for DimensionTexts {
+impl<'a> PartText<'a, Dimensions> for DimensionText {
     ghost text = { dimension_text };
 
     ghost reads = { texts_of dimension_text read_dimension };
@@ -30,10 +30,13 @@ impl<'a> PartText<'a, Dimensions> for DimensionTexts {
     }
 }
 
-// An element as NULL or a byte string.
-pub struct ValueTexts;
+// The dimensions that a cursor gives, as words.
+pub type DimensionTexts<'a> = CursorTexts<'a, Dimensions, DimensionText>;
 
-impl<'a> PartText<'a, Values> for ValueTexts {
+// An element as NULL or a byte string.
+pub struct ValueText;
+
+impl<'a> PartText<'a, Values> for ValueText {
     ghost text = { λ v. value_text (seen_value v) };
 
     ghost reads = { texts_of value_text read_nullable };
@@ -44,3 +47,6 @@ impl<'a> PartText<'a, Values> for ValueTexts {
         push_value(out, value)
     }
 }
+
+// The elements that a cursor gives, as words.
+pub type ValueTexts<'a> = CursorTexts<'a, Values, ValueText>;

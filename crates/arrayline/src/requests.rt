@@ -13,11 +13,9 @@ use crate::words::DimensionNotation;
 use answers::parts::push_parts;
 use answers::plain::{bad_request, push_flag, refusal};
 use answers::written::{blank_part, print_written};
-use arrayview::dimensions::Dimensions;
 use arrayview::read::{self, Array};
-use arrayview::values::Values;
 use items::parse::parse_items;
-use lines::argument::on_bytes;
+use lines::argument::{Reading, on_bytes};
 use listing::list::parse_list;
 use std::alloc::{AllocError, Global};
 use syntax::parse::{parse_number, split_at_first};
@@ -27,10 +25,21 @@ use syntax::print::push_decimal;
 pub fn array_from_sql(heap: Global, argument: &[u8]) -> Result<Vec<u8>, AllocError>
     ensures { IfOk result (λ v. v.items ≡ answered (λ bs. array_answer (array_recv bs)) (bytes_in argument.now)) }
 {
-    on_bytes(heap, argument, |bytes| match read::array_from_sql(bytes) {
-        Ok(array) => print_array(heap, &array),
-        Err(fault) => refusal(heap, fault),
-    })
+    on_bytes::<ReadArray>(heap, argument)
+}
+
+// An array.
+struct ReadArray;
+
+impl Reading for ReadArray {
+    ghost says = { λ bs. array_answer (array_recv bs) };
+
+    fn answer(heap: Global, bytes: &[u8]) -> Result<Vec<u8>, AllocError> {
+        match read::array_from_sql(bytes) {
+            Ok(array) => print_array(heap, &array),
+            Err(fault) => refusal(heap, fault),
+        }
+    }
 }
 
 // An opened array with all that its cursors give.
@@ -42,9 +51,9 @@ fn print_array(heap: Global, array: &Array<'_>) -> Result<Vec<u8>, AllocError>
     out.extend_from_slice(b" oid=")?;
     push_decimal(&mut out, u64::from(array.element_type()))?;
     out.extend_from_slice(b" dims=")?;
-    push_parts::<Dimensions, DimensionTexts>(&mut out, array.dimensions())?;
+    push_parts(&mut out, &mut DimensionTexts::new(array.dimensions()))?;
     out.extend_from_slice(b" values=")?;
-    push_parts::<Values, ValueTexts>(&mut out, array.values())?;
+    push_parts(&mut out, &mut ValueTexts::new(array.values()))?;
     Ok(out)
 }
 

@@ -79,7 +79,10 @@ pub extern "C" fn hemgyost_path_write(
 fn lay_points(heap: Global, pairs: &[Pair]) -> Result<Vec<Point>, AllocError>
     ensures { IfOk result (λ v. v.items ≡ map point_of pairs.now) }
 {
-    pairs.iter().map(lay_point).collect(heap)
+    // All the room is asked for at once, so that want of memory is told before any is filled.
+    let mut points = Vec::with_capacity(heap, pairs.len())?;
+    points.extend(pairs.iter().map(lay_point))?;
+    Ok(points)
 }
 
 fn lay_point(pair: &Pair) -> Point
@@ -111,7 +114,9 @@ pub extern "C" fn hemgyost_hstore_write(
 fn lay_entries(heap: Global, rows: &[Parts]) -> Result<Vec<HstoreEntry>, AllocError>
     ensures { IfOk result (λ v. v.items ≡ map entry_of rows.now) }
 {
-    rows.iter().map(lay_entry).collect(heap)
+    let mut entries = Vec::with_capacity(heap, rows.len())?;
+    entries.extend(rows.iter().map(lay_entry))?;
+    Ok(entries)
 }
 
 fn lay_entry(row: &Parts) -> HstoreEntry

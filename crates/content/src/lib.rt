@@ -2,6 +2,7 @@
 #![tactic(auto)]
 
 pub mod array_content;
+pub mod encoded;
 pub mod formats;
 pub mod item;
 pub mod lists;

@@ -1,7 +1,9 @@
 //! Writing points and boxes.
 ghost use Rattle.std.specs.Prelude.{◌≡◌, ◌+◌, ◌≤◌, length, Ok};
 ghost use Rattle.double.specs.Points.{point, corners};
+ghost use Rattle.double.specs.Doubles.{double_word};
 ghost use Rattle.wire.specs.Bytes.{put};
+ghost use Rattle.wire.specs.Words.{be};
 ghost use Rattle.wire.specs.Encoding.{told, laid, told_at, laid_at, room_for};
 ghost use Rattle.geometry.specs.Laws.{PointDistinct, BoxDistinct};
 ghost use Rattle.geometry.specs.Layout.{point_layout, points_layout, box_layout};
@@ -10,7 +12,6 @@ ghost use Rattle.geometry.specs.Recv.{point_recv, box_recv};
 use double::point::Point;
 use double::word::to_word;
 use fault::{Fault, Rule};
-use wire::word::Word;
 
 // Writes a point to the start of the part, and answers the number of bytes. A NaN is written as the
 // one NaN.
@@ -44,17 +45,27 @@ pub fn put_points(part: &mut [u8], at: usize, points: &[Point]) -> Result<usize,
     }
     let mut end = at;
     for point in points {
-        end = put_point(part, end, *point)?;
+        end = put_point(part, end, *point);
     }
     Ok(end)
 }
 
 // Writes a point at `at`, where there is room, and answers the place behind it.
-fn put_point(part: &mut [u8], at: usize, point: Point) -> Result<usize, Fault>
+fn put_point(part: &mut [u8], at: usize, point: Point) -> usize
     requires { at + 16 ≤ length part.old }
-    ensures answer { result ≡ Ok (at + 16) }
+    ensures answer { result ≡ at + 16 }
     ensures after { part.new ≡ put at (point_layout point) part.old }
 {
-    let next = u64::put(part, at, to_word(point.x()))?;
-    u64::put(part, next, to_word(point.y()))
+    put_coordinate(part, at, point.x());
+    put_coordinate(part, at + 8, point.y());
+    at + 16
+}
+
+// Writes a coordinate at `at`, where there is room. That is not tested again, since a long path is mostly
+// this.
+fn put_coordinate(part: &mut [u8], at: usize, x: f64)
+    requires { at + 8 ≤ length part.old }
+    ensures { part.new ≡ put at (be 8 (double_word x)) part.old }
+{
+    part[at..at + 8].copy_from_slice(&to_word(x).to_be_bytes());
 }

@@ -5,15 +5,15 @@ ghost use Rattle.hstore.specs.Recv.{read_entry};
 ghost use Rattle.hstoreview.specs.Views.{seen_entry};
 ghost use Rattle.hstoreline.specs.Hstores.{entry_text};
 
-use answers::parts::PartText;
+use answers::parts::{CursorTexts, PartText};
 use answers::plain::{push_bytes, push_value};
 use hstoreview::entries::Entries;
 use std::alloc::AllocError;
 
 // An entry as xKEY=xVALUE or xKEY=NULL.
-pub struct EntryTexts;
+pub struct EntryText;
 
-impl<'a> PartText<'a, Entries> for EntryTexts {
+impl<'a> PartText<'a, Entries> for EntryText {
     ghost text = { λ e. entry_text (seen_entry e) };
 
     ghost reads = { texts_of entry_text read_entry };
@@ -27,3 +27,6 @@ impl<'a> PartText<'a, Entries> for EntryTexts {
         push_value(out, value)
     }
 }
+
+// The entries that a cursor gives, as words.
+pub type EntryTexts<'a> = CursorTexts<'a, Entries, EntryText>;

@@ -11,7 +11,7 @@ use crate::words::parse_entries;
 use answers::parts::push_parts;
 use answers::plain::{bad_request, refusal};
 use answers::written::{blank_part, print_written};
-use hstoreview::entries::{Entries, HstoreEntries};
+use hstoreview::entries::HstoreEntries;
 use std::alloc::{AllocError, Global};
 use syntax::parse::parse_bytes;
 use texts::pools::Pools;
@@ -34,7 +34,7 @@ fn print_entries(heap: Global, entries: HstoreEntries<'_>) -> Result<Vec<u8>, Al
     ensures { IfOk result (λ v. v.items ≡ hstore_text (state entries.entry)) }
 {
     let mut out = Vec::from_slice(heap, b"hstore ")?;
-    push_parts::<Entries, EntryTexts>(&mut out, entries)?;
+    push_parts(&mut out, &mut EntryTexts::new(entries))?;
     Ok(out)
 }
 

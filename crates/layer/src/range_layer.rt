@@ -85,7 +85,7 @@ impl RowKind for Ranges {
             RangeRow::Empty => Ok(1),
             RangeRow::Bounds(lower, upper) => {
                 let window = Window::new(inner, 0, 65536);
-                range_size(lower.map(usize::from), upper.map(usize::from), &window)
+                range_size(RangeBound::from(lower), RangeBound::from(upper), &window)
             }
         }
     }
@@ -101,8 +101,8 @@ impl RowKind for Ranges {
             RangeRow::Bounds(lower, upper) => {
                 let window = Window::new(inner, 0, 65536);
                 range_to_sql(
-                    lower.map(usize::from),
-                    upper.map(usize::from),
+                    RangeBound::from(lower),
+                    RangeBound::from(upper),
                     &window,
                     part,
                 )

@@ -1,9 +1,11 @@
 -- Lines that are cut, and input that is taken in byte by byte.
-use Rattle.std.proofs.Common.{◌≡◌, ℕ, suc, ◌<◌, ◌≤◌, true, false, cond, eqb, leb, List, [], ◌∷◌, ◌++◌, length, sym, refl, ap, ◌∙◌, ⊎_elim, arith}
-use Rattle.std.proofs.lemmas.List.{append_assoc, append-nil, length_push, length-take-le, take_all, take-append-le}
-use Rattle.std.proofs.lemmas.Bool.{cases_lt, cond-true, cond-false, le-leb, lt-leb, eq-eqb, ne_eqb}
+use Rattle.std.proofs.Common.{◌≡◌, ℕ, suc, ◌+◌, ◌-◌, ◌<◌, ◌≤◌, true, false, cond, eqb, Some, None, Option, List, [], ◌∷◌, ◌++◌, length, take, sym, refl, ap, ◌∙◌, subst, ⊎_elim, arith}
+use Rattle.std.proofs.lemmas.List.{append_assoc, append-nil, length-take-le, take_all, take-append-le}
+use Rattle.std.proofs.Math.Seq.{take-append-add}
+use Rattle.std.proofs.lemmas.Bool.{cases_lt, cond-true, cond-false, cond_both, lt-leb}
 use Rattle.answers.specs.Plain.{bad_request}
-use Rattle.lines.specs.Lines.{answer_line, printed, left, cut, Taken, Ended}
+use Rattle.syntax.specs.Parsed.{widened, split_at}
+use Rattle.lines.specs.Lines.{answer_line, printed, left, cut, more, Taken, Ended}
 use Rattle.lines.specs.Reply.{reply_to}
 
 -- bytes behind others
@@ -16,6 +18,49 @@ module _ (reply : List ℕ → List ℕ) where
         | true ↦ ap (λ l. answer_line reply line ++ l) (printed_append [] bs cs) ∙ sym (append_assoc (answer_line reply line) (printed reply [] bs) (printed reply (left [] bs) cs))
         | false ↦ printed_append (line ++ (x ∷ [])) bs cs
       ]
+
+-- less stands behind a separator
+module _ (sep : ℕ) where
+  abbrev Fewer : List ℕ → Option (List ℕ × List ℕ) → Type 0
+  Fewer bs (Some p) = length p.1 < length bs
+  Fewer bs None = Unit {0}
+
+  widened_fewer : (x : ℕ) (cs : List ℕ) (o : Option (List ℕ × List ℕ)) → Fewer cs o → Fewer (x ∷ cs) (widened x o)
+  widened_fewer x cs (Some p) h = omega arith
+  widened_fewer x cs None h = tt
+
+  fewer : (bs : List ℕ) → Fewer bs (split_at sep bs)
+  fewer [] = tt
+  fewer (x ∷ cs) = cond_both (eqb x sep) (Some ([], cs)) (widened x (split_at sep cs)) (Fewer (x ∷ cs)) (λ _. omega arith) (λ _. widened_fewer x cs (split_at sep cs) (fewer cs))
+
+  pub split_less : (bs p q : List ℕ) → Some (p, q) ≡ split_at sep bs → length q < length bs
+  split_less bs p q e = subst (Fewer bs) (sym e) (fewer bs)
+
+-- what is printed for bytes by their first newline
+module _ (reply : List ℕ → List ℕ) where
+  abbrev Printed : List ℕ → List ℕ → Option (List ℕ × List ℕ) → Type 0
+  Printed line bs (Some p) = (printed reply line bs ≡ answer_line reply (line ++ p.0) ++ printed reply [] p.1) × (left line bs ≡ left [] p.1)
+  Printed line bs None = (printed reply line bs ≡ []) × (left line bs ≡ line ++ bs)
+
+  widened_on : (line : List ℕ) (x : ℕ) (cs : List ℕ) (o : Option (List ℕ × List ℕ)) → eqb x 10 ≡ false → Printed (line ++ (x ∷ [])) cs o → Printed line (x ∷ cs) (widened x o)
+  widened_on line x cs (Some p) f h = (
+    cond-false _ _ _ f ∙ h.0 ∙ ap (λ l. answer_line reply l ++ printed reply [] p.1) (append_assoc line (x ∷ []) p.0),
+    cond-false _ _ _ f ∙ h.1,
+  )
+  widened_on line x cs None f h = (cond-false _ _ _ f ∙ h.0, cond-false _ _ _ f ∙ h.1 ∙ append_assoc line (x ∷ []) cs)
+
+  printed_by : (line bs : List ℕ) → Printed line bs (split_at 10 bs)
+  printed_by line [] = (refl, sym (append-nil line))
+  printed_by line (x ∷ cs) =
+      cond_both (eqb x 10) (Some ([], cs)) (widened x (split_at 10 cs)) (Printed line (x ∷ cs))
+      (λ t. (cond-true _ _ _ t ∙ ap (λ l. answer_line reply l ++ printed reply [] cs) (sym (append-nil line)), cond-true _ _ _ t))
+      (λ f. widened_on line x cs (split_at 10 cs) f (printed_by (line ++ (x ∷ [])) cs))
+
+  printed_split : (line bs p q : List ℕ) → split_at 10 bs ≡ Some (p, q) → Printed line bs (Some (p, q))
+  printed_split line bs p q e = subst (Printed line bs) e (printed_by line bs)
+
+  printed_whole : (line bs : List ℕ) → split_at 10 bs ≡ None → Printed line bs None
+  printed_whole line bs e = subst (Printed line bs) e (printed_by line bs)
 
 left_append : (line bs cs : List ℕ) → left line (bs ++ cs) ≡ left (left line bs) cs
 left_append line [] cs = refl
@@ -43,16 +88,17 @@ module _ (longest : ℕ) where
   cut_long : (line : List ℕ) → suc longest ≤ length line → length (cut longest line) ≡ suc longest
   cut_long line h = length-take-le (suc longest) line h
 
-  -- one more byte
-  cut_push : (line : List ℕ) (b : ℕ) → cond (leb (length (cut longest line)) longest) (cut longest line ++ (b ∷ [])) (cut longest line) ≡ cut longest (line ++ (b ∷ []))
-  cut_push line b =
+  -- more of the line
+  pub cut_more : (line piece : List ℕ) → more longest (cut longest line) piece ≡ cut longest (line ++ piece)
+  cut_more line piece =
       ⊎_elim
-      (λ h. let short : length line < suc longest = h in
-      ap (λ l. cond (leb (length l) longest) (l ++ (b ∷ [])) l) (cut_short line (omega arith))
-      ∙ cond-true _ _ _ (le-leb (length line) longest (omega arith))
-      ∙ sym (cut_short (line ++ (b ∷ [])) (simp length_push (omega arith))))
+      (λ h. let all : length line + (suc longest - length line) ≡ suc longest = omega arith in
+      ap (λ l. more longest l piece) (cut_short line (omega arith))
+      ∙ sym (take-append-add line piece (suc longest - length line))
+      ∙ ap (λ n. take n (line ++ piece)) all)
       (λ h. let long : length (cut longest line) ≡ suc longest = cut_long line h in
-      cond-false _ _ _ (lt-leb (length (cut longest line)) longest (omega arith)) ∙ sym (take-append-le (suc longest) line (b ∷ []) h))
+      let none : suc longest - length (cut longest line) ≡ 0 = omega arith in
+      ap (λ n. cut longest line ++ take n piece) none ∙ append-nil (cut longest line) ∙ sym (take-append-le (suc longest) line piece h))
       (cases_lt (length line) (suc longest))
 
 -- any requests
@@ -72,24 +118,26 @@ module _ (longest : ℕ) (named : List ℕ → List ℕ → List ℕ) (alone : L
       (λ h. ap answers (cut_short longest line h))
       (cases_lt (suc longest) (length line))
 
-  -- a newline ends the line
-  pub taken_newline : (held : List ℕ) (b : ℕ) (out after holds : List ℕ) → b ≡ 10 → after ≡ out ++ answer_line answers held → holds ≡ [] → Taken longest answers held (b ∷ []) out after holds
-  taken_newline held b out after holds newline wrote empty line e =
-      let t = eq-eqb b 10 newline in
-      let answer : answer_line answers held ≡ answer_line answers line = ap (answer_line answers) e ∙ ap (λ l. l ++ (10 ∷ [])) (reply_cut line) in
-      let is : printed answers line (b ∷ []) ≡ answer_line answers line = cond-true (eqb b 10) (answer_line answers line ++ []) [] t ∙ append-nil (answer_line answers line) in
-      (wrote ∙ ap (λ l. out ++ l) (answer ∙ sym is), empty ∙ ap (cut longest) (sym (cond-true (eqb b 10) [] (line ++ (b ∷ [])) t)))
+  -- bytes with a newline: what comes before it ends the line
+  pub taken_line : (held bs p q out mid after holds : List ℕ) → Some (p, q) ≡ split_at 10 bs → mid ≡ out ++ answer_line answers (more longest held p) → Taken longest answers [] q mid after holds → Taken longest answers held bs out after holds
+  taken_line held bs p q out mid after holds cuts wrote next line e =
+      let split = printed_split answers line bs p q (sym cuts) in
+      let then_on = next [] refl in
+      let kept : more longest held p ≡ cut longest (line ++ p) = ap (λ l. more longest l p) e ∙ cut_more longest line p in
+      let answer : answer_line answers (more longest held p) ≡ answer_line answers (line ++ p) = ap (answer_line answers) kept ∙ ap (λ l. l ++ (10 ∷ [])) (reply_cut (line ++ p)) in (
+        then_on.0
+            ∙ ap (λ l. l ++ printed answers [] q) (wrote ∙ ap (λ l. out ++ l) answer)
+            ∙ append_assoc out (answer_line answers (line ++ p)) (printed answers [] q)
+            ∙ ap (λ l. out ++ l) (sym split.0),
+        then_on.1 ∙ ap (cut longest) (sym split.1),
+      )
 
-  -- any other byte is kept
-  pub taken_other : (held : List ℕ) (b : ℕ) (out holds : List ℕ) → (b ≡ 10 → ⊥) → holds ≡ cond (leb (length held) longest) (held ++ (b ∷ [])) held → Taken longest answers held (b ∷ []) out out holds
-  taken_other held b out holds other kept line e =
-      let f = ne_eqb b 10 other in
-      let is : printed answers line (b ∷ []) ≡ [] = cond-false (eqb b 10) (answer_line answers line ++ []) [] f in (
-        sym (ap (λ l. out ++ l) is ∙ append-nil out),
-        kept
-            ∙ ap (λ l. cond (leb (length l) longest) (l ++ (b ∷ [])) l) e
-            ∙ cut_push longest line b
-            ∙ ap (cut longest) (sym (cond-false (eqb b 10) [] (line ++ (b ∷ [])) f)),
+  -- bytes with no newline are kept
+  pub taken_piece : (held bs out holds : List ℕ) → None ≡ split_at 10 bs → holds ≡ more longest held bs → Taken longest answers held bs out out holds
+  taken_piece held bs out holds cuts kept line e =
+      let whole = printed_whole answers line bs (sym cuts) in (
+        sym (ap (λ l. out ++ l) whole.0 ∙ append-nil out),
+        kept ∙ ap (λ l. more longest l bs) e ∙ cut_more longest line bs ∙ ap (cut longest) (sym whole.1),
       )
 
   -- nothing is held at the end, or something

@@ -1,5 +1,5 @@
 -- Input in lines, and what is printed for it.
-use Rattle.std.specs.Prelude.{◌≡◌, ℕ, suc, cond, List, [], ◌∷◌, ◌++◌, take, ◌==◌}
+use Rattle.std.specs.Prelude.{◌≡◌, ℕ, suc, ◌-◌, cond, List, [], ◌∷◌, ◌++◌, length, take, ◌==◌}
 
 -- the answer to a line, with its newline
 abbrev pub answer_line : (List ℕ → List ℕ) → List ℕ → List ℕ
@@ -23,6 +23,10 @@ last_printed reply (b ∷ bs) = answer_line reply (b ∷ bs)
 -- what is kept of a line: one byte more than a request may have, so that its answer stays the same
 abbrev pub cut : ℕ → List ℕ → List ℕ
 cut longest line = take (suc longest) line
+
+-- what is kept once more bytes of the line have come
+abbrev pub more : ℕ → List ℕ → List ℕ → List ℕ
+more longest held piece = held ++ take (suc longest - length held) piece
 
 -- bytes that are taken in, where the beginning of a line is held: the answers that are added, and what is held then
 abbrev pub Taken : ℕ → (List ℕ → List ℕ) → List ℕ → List ℕ → List ℕ → List ℕ → List ℕ → Type 0

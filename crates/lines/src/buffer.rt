@@ -1,11 +1,12 @@
 //! Input in lines.
-ghost use Rattle.std.specs.Prelude.{◌≡◌, [], ◌∷◌, ◌++◌, length, if◌then◌else◌, OnOk, nat_le};
-ghost use Rattle.lines.specs.Lines.{answer_line, Taken, Ended};
+ghost use Rattle.std.specs.Prelude.{◌≡◌, [], ◌++◌, OnOk};
+ghost use Rattle.lines.specs.Lines.{answer_line, more, Taken, Ended};
 ghost use Rattle.lines.specs.Reply.{reply_to};
 
-use crate::protocol::{Protocol, reply};
+use crate::protocol::Protocol;
 use std::alloc::{AllocError, Global};
 use std::marker::PhantomData;
+use syntax::parse::split_at_first;
 
 // The line that has begun, as far as its answer depends on it: one byte more than a request may have.
 // A longer line has the same answer, however it goes on.
@@ -29,30 +30,32 @@ impl<P: Protocol> LineBuffer<P> {
     pub fn take(&mut self, heap: Global, bytes: &[u8], out: &mut Vec<u8>) -> Result<(), AllocError>
         ensures { OnOk result (Taken P.LONGEST_LINE (reply_to P.LONGEST_LINE P.named P.alone) self.old.line.items bytes.now out.old.items out.new.items self.new.line.items) }
     {
-        for b in bytes {
-            self.take_byte(heap, *b, out)?;
+        let mut rest = bytes;
+        while let Some((piece, behind)) = split_at_first(rest, b'\n') {
+            self.push(piece)?;
+            self.answer(heap, out)?;
+            rest = behind;
         }
+        self.push(rest)
+    }
+
+    // The line has ended: prints its answer.
+    fn answer(&mut self, heap: Global, out: &mut Vec<u8>) -> Result<(), AllocError>
+        ensures { OnOk result ((out.new.items ≡ out.old.items ++ answer_line (reply_to P.LONGEST_LINE P.named P.alone) self.old.line.items) × (self.new.line.items ≡ [])) }
+    {
+        push_answer::<P>(heap, &self.line, out)?;
+        self.line.clear();
         Ok(())
     }
 
-    fn take_byte(&mut self, heap: Global, byte: u8, out: &mut Vec<u8>) -> Result<(), AllocError>
-        ensures { OnOk result (Taken P.LONGEST_LINE (reply_to P.LONGEST_LINE P.named P.alone) self.old.line.items (byte ∷ []) out.old.items out.new.items self.new.line.items) }
-    {
-        if byte == b'\n' {
-            push_answer::<P>(heap, &self.line, out)?;
-            self.line.clear();
-            Ok(())
-        } else {
-            self.push(byte)
-        }
-    }
-
-    // One more byte of the line.
-    fn push(&mut self, byte: u8) -> Result<(), AllocError>
-        ensures { OnOk result (self.new.line.items ≡ (if nat_le (length self.old.line.items) P.LONGEST_LINE then self.old.line.items ++ (byte ∷ []) else self.old.line.items)) }
+    // More bytes of the line, as far as they are kept.
+    fn push(&mut self, piece: &[u8]) -> Result<(), AllocError>
+        ensures { OnOk result (self.new.line.items ≡ more P.LONGEST_LINE self.old.line.items piece.now) }
     {
         if self.line.len() <= P::LONGEST_LINE {
-            self.line.push(byte)?;
+            let room = (P::LONGEST_LINE - self.line.len()).saturating_add(1);
+            self.line
+                .extend_from_slice(&piece[..piece.len().min(room)])?;
         }
         Ok(())
     }
@@ -72,7 +75,7 @@ impl<P: Protocol> LineBuffer<P> {
 fn push_answer<P: Protocol>(heap: Global, line: &[u8], out: &mut Vec<u8>) -> Result<(), AllocError>
     ensures { OnOk result (out.new.items ≡ out.old.items ++ answer_line (reply_to P.LONGEST_LINE P.named P.alone) line.now) }
 {
-    let answer = reply::<P>(heap, line)?;
+    let answer = P::reply(heap, line)?;
     out.extend_from_slice(&answer)?;
     out.push(b'\n')?;
     Ok(())

@@ -7,7 +7,7 @@ use std::alloc::{AllocError, Global};
 use syntax::parse::split_at_first;
 
 // The requests that a line protocol knows, and how long a line may be.
-pub trait Protocol {
+pub trait Requests {
     // A longer line is a bad request.
     const LONGEST_LINE: usize;
 
@@ -26,8 +26,15 @@ pub trait Protocol {
         ensures { IfOk result (λ v. v.items ≡ alone word.now) };
 }
 
-// The answer to the request that a line is; it fails only for want of memory.
-pub fn reply<P: Protocol>(heap: Global, line: &[u8]) -> Result<Vec<u8>, AllocError>
+// Requests, with the answer that a program prints for a line. `reply` gives it; a protocol names here the
+// function that has it as its contract, so that the program goes through that function.
+pub trait Protocol: Requests {
+    fn reply(heap: Global, line: &[u8]) -> Result<Vec<u8>, AllocError>
+        ensures { IfOk result (λ v. v.items ≡ reply_to Self.LONGEST_LINE Self.named Self.alone line.now) };
+}
+
+// The answer to a line by its words; it fails only for want of memory.
+pub fn reply<P: Requests>(heap: Global, line: &[u8]) -> Result<Vec<u8>, AllocError>
     ensures { IfOk result (λ v. v.items ≡ reply_to P.LONGEST_LINE P.named P.alone line.now) }
 {
     if line.len() > P::LONGEST_LINE {

@@ -20,8 +20,11 @@ pub fn serve<P: Protocol, R: Read, W: Write>(
     ensures end { OnOk result (IsAtEnd (R.remaining input.new)) }
 {
     let mut lines = LineBuffer::<P>::new(heap);
+    // Both keep their memory from turn to turn.
+    let mut chunk = [0u8; 4096];
+    let mut out = Vec::new(heap);
     for _ in 0..u64::MAX {
-        if answer_some(heap, &mut lines, input, output)? == 0 {
+        if answer_some(heap, &mut lines, input, output, &mut chunk, &mut out)? == 0 {
             return answer_rest(heap, &lines, output);
         }
     }
@@ -34,14 +37,16 @@ fn answer_some<P: Protocol, R: Read, W: Write>(
     lines: &mut LineBuffer<P>,
     input: &mut R,
     output: &mut W,
+    chunk: &mut [u8; 4096],
+    out: &mut Vec<u8>,
 ) -> io::Result<usize>
-    ensures { IfOk result (λ n. (bs : List ℕ) × (text : List ℕ) × Consumes (R.remaining input.old) (R.remaining input.new) bs × (n ≡ 0 → IsAtEnd (R.remaining input.new)) × Taken P.LONGEST_LINE (reply_to P.LONGEST_LINE P.named P.alone) lines.old.line.items bs [] text lines.new.line.items × Appends (W.contents output.old) (W.contents output.new) text) }
+    requires { out.old.items ≡ [] }
+    ensures { IfOk result (λ n. (out.new.items ≡ []) × (bs : List ℕ) × (text : List ℕ) × Consumes (R.remaining input.old) (R.remaining input.new) bs × (n ≡ 0 → IsAtEnd (R.remaining input.new)) × Taken P.LONGEST_LINE (reply_to P.LONGEST_LINE P.named P.alone) lines.old.line.items bs [] text lines.new.line.items × Appends (W.contents output.old) (W.contents output.new) text) }
 {
-    let mut chunk = [0u8; 4096];
-    let n = input.read(&mut chunk)?;
-    let mut out = Vec::new(heap);
-    lines.take(heap, &chunk[..n], &mut out)?;
-    output.write_all(&out)?;
+    let n = input.read(chunk)?;
+    lines.take(heap, &chunk[..n], out)?;
+    output.write_all(out)?;
+    out.clear();
     Ok(n)
 }
 

@@ -4,7 +4,7 @@ ghost use Rattle.answers.specs.Parts.{texts_of};
 ghost use Rattle.path.specs.Recv.{read_point};
 ghost use Rattle.shapeline.specs.Words.{point_text, point_in};
 
-use answers::parts::PartText;
+use answers::parts::{CursorTexts, PartText};
 use double::point::Point;
 use listing::list::Notation;
 use path::points::Points;
@@ -12,9 +12,9 @@ use shapeline::words::{parse_point, push_point};
 use std::alloc::AllocError;
 
 // A point as W:W.
-pub struct PointTexts;
+pub struct PointText;
 
-impl<'a> PartText<'a, Points> for PointTexts {
+impl<'a> PartText<'a, Points> for PointText {
     ghost text = { point_text 58 };
 
     ghost reads = { texts_of (point_text 58) read_point };
@@ -25,6 +25,9 @@ impl<'a> PartText<'a, Points> for PointTexts {
         push_point(out, point, b':')
     }
 }
+
+// The points that a cursor gives, as words.
+pub type PointTexts<'a> = CursorTexts<'a, Points, PointText>;
 
 // W:W
 pub struct PointNotation;

@@ -10,9 +10,8 @@ use crate::points::{PointNotation, PointTexts};
 use answers::parts::push_parts;
 use answers::plain::{bad_request, push_flag, refusal};
 use answers::written::{blank_part, print_written};
-use lines::argument::on_bytes;
+use lines::argument::{Reading, on_bytes};
 use listing::list::parse_list;
-use path::points::Points;
 use path::read::{self, Path};
 use std::alloc::{AllocError, Global};
 use syntax::parse::split_at_first;
@@ -21,10 +20,21 @@ use syntax::parse::split_at_first;
 pub fn path_from_sql(heap: Global, argument: &[u8]) -> Result<Vec<u8>, AllocError>
     ensures { IfOk result (λ v. v.items ≡ answered (λ bs. path_answer (path_recv bs)) (bytes_in argument.now)) }
 {
-    on_bytes(heap, argument, |bytes| match read::path_from_sql(bytes) {
-        Ok(path) => print_path(heap, &path),
-        Err(fault) => refusal(heap, fault),
-    })
+    on_bytes::<ReadPath>(heap, argument)
+}
+
+// A path.
+struct ReadPath;
+
+impl Reading for ReadPath {
+    ghost says = { λ bs. path_answer (path_recv bs) };
+
+    fn answer(heap: Global, bytes: &[u8]) -> Result<Vec<u8>, AllocError> {
+        match read::path_from_sql(bytes) {
+            Ok(path) => print_path(heap, &path),
+            Err(fault) => refusal(heap, fault),
+        }
+    }
 }
 
 // An opened path with all that its cursor gives.
@@ -34,7 +44,7 @@ fn print_path(heap: Global, path: &Path<'_>) -> Result<Vec<u8>, AllocError>
     let mut out = Vec::from_slice(heap, b"path closed=")?;
     push_flag(&mut out, path.closed())?;
     out.push(b' ')?;
-    push_parts::<Points, PointTexts>(&mut out, path.points())?;
+    push_parts(&mut out, &mut PointTexts::new(path.points()))?;
     Ok(out)
 }
 

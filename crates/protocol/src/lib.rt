@@ -7,7 +7,7 @@ ghost use Rattle.protocol.specs.Reply.{answer_to, reply_to};
 
 use addressline::requests::{inet_from_sql, inet_to_sql, text_from_sql};
 use answers::plain::bad_request;
-use lines::protocol::Protocol;
+use lines::protocol::{Protocol, Requests};
 use listing::requests::{element_list, texts};
 use std::alloc::{AllocError, Global};
 use std::str;
@@ -15,7 +15,7 @@ use std::str;
 // The protocol of the program `codec`.
 pub struct Narrow;
 
-impl Protocol for Narrow {
+impl Requests for Narrow {
     const LONGEST_LINE: usize = 65536;
 
     ghost LONGEST_LINE = { 65536 };
@@ -40,6 +40,12 @@ impl Protocol for Narrow {
 
     fn answer_alone(heap: Global, _word: &[u8]) -> Result<Vec<u8>, AllocError> {
         bad_request(heap)
+    }
+}
+
+impl Protocol for Narrow {
+    fn reply(heap: Global, line: &[u8]) -> Result<Vec<u8>, AllocError> {
+        reply(heap, line)
     }
 }
 

@@ -1,4 +1,5 @@
 //! Bounds and ranges.
+ghost use Rattle.std.specs.Prelude.{◌≡◌};
 ghost use Rattle.range.specs.Mapping.{ForBound, Mapped};
 
 // One side of a range. In writing it holds an item's number, in reading a payload or NULL.
@@ -11,7 +12,7 @@ pub enum RangeBound<T> {
 
 impl<T> RangeBound<T> {
     // The same kind of bound, around what the function makes of its value.
-    pub fn map<U, F: FnOnce(T) -> U>(self, f: F) -> RangeBound<U>
+    fn map<U, F: FnOnce(T) -> U>(self, f: F) -> RangeBound<U>
         requires { ForBound self (F.pre f) }
         ensures { Mapped (F.post f) self result }
     {
@@ -20,6 +21,15 @@ impl<T> RangeBound<T> {
             RangeBound::Exclusive(value) => RangeBound::Exclusive(f(value)),
             RangeBound::Unbounded => RangeBound::Unbounded,
         }
+    }
+}
+
+// A bound by the same number of an item.
+impl From<RangeBound<u16>> for RangeBound<usize> {
+    ghost from_gives = { λ bound wide. wide ≡ bound };
+
+    fn from(bound: RangeBound<u16>) -> RangeBound<usize> {
+        bound.map(usize::from)
     }
 }
 

@@ -59,12 +59,12 @@ fn parse_bounded(
     let Some((kind, item)) = split_at_first(word, b':') else {
         return Ok(None);
     };
-    let item = parse_item(heap, item, slots)?;
-    Ok(match kind {
-        b"inc" => item.map(RangeBound::Inclusive),
-        b"exc" => item.map(RangeBound::Exclusive),
-        _ => None,
-    })
+    // Nothing is read of an item that no kind of bound is said to have.
+    match kind {
+        b"inc" => Ok(parse_item(heap, item, slots)?.map(RangeBound::Inclusive)),
+        b"exc" => Ok(parse_item(heap, item, slots)?.map(RangeBound::Exclusive)),
+        _ => Ok(None),
+    }
 }
 
 // The number of the item that a word spells, once it stands behind the others.

@@ -10,7 +10,7 @@ use crate::bounds::{parse_bound, push_bound};
 use answers::plain::{bad_request, refusal};
 use answers::written::{blank_part, print_written};
 use items::list::ItemList;
-use lines::argument::on_bytes;
+use lines::argument::{Reading, on_bytes};
 use range::bound::Range;
 use range::read;
 use std::alloc::{AllocError, Global};
@@ -20,10 +20,21 @@ use syntax::parse::split_at_first;
 pub fn range_from_sql(heap: Global, argument: &[u8]) -> Result<Vec<u8>, AllocError>
     ensures { IfOk result (λ v. v.items ≡ answered (λ bs. range_answer (range_recv bs)) (bytes_in argument.now)) }
 {
-    on_bytes(heap, argument, |bytes| match read::range_from_sql(bytes) {
-        Ok(range) => print_range(heap, range),
-        Err(fault) => refusal(heap, fault),
-    })
+    on_bytes::<ReadRange>(heap, argument)
+}
+
+// A range.
+struct ReadRange;
+
+impl Reading for ReadRange {
+    ghost says = { λ bs. range_answer (range_recv bs) };
+
+    fn answer(heap: Global, bytes: &[u8]) -> Result<Vec<u8>, AllocError> {
+        match read::range_from_sql(bytes) {
+            Ok(range) => print_range(heap, range),
+            Err(fault) => refusal(heap, fault),
+        }
+    }
 }
 
 fn print_range(heap: Global, range: Range<'_>) -> Result<Vec<u8>, AllocError>

@@ -5,7 +5,7 @@ ghost use Rattle.record.specs.Recv.{read_column};
 ghost use Rattle.record.specs.Views.{seen_column};
 ghost use Rattle.recordline.specs.Records.{column_text};
 
-use answers::parts::PartText;
+use answers::parts::{CursorTexts, PartText};
 use answers::plain::push_value;
 use record::columns::Columns;
 use std::alloc::AllocError;
@@ -13,9 +13,9 @@ use syntax::print::push_decimal;
 use wire::oid::Oid;
 
 // A column as OID=xB or OID=NULL.
-pub struct ColumnTexts;
+pub struct ColumnText;
 
-impl<'a> PartText<'a, Columns> for ColumnTexts {
+impl<'a> PartText<'a, Columns> for ColumnText {
     ghost text = { λ c. column_text (seen_column c) };
 
     ghost reads = { texts_of column_text read_column };
@@ -29,3 +29,6 @@ impl<'a> PartText<'a, Columns> for ColumnTexts {
         push_value(out, value)
     }
 }
+
+// The columns that a cursor gives, as words.
+pub type ColumnTexts<'a> = CursorTexts<'a, Columns, ColumnText>;

@@ -9,7 +9,7 @@ ghost use Rattle.recordline.specs.Records.{record_text, record_answer};
 use crate::columns::ColumnTexts;
 use answers::parts::push_parts;
 use answers::plain::{bad_request, refusal};
-use record::columns::{Columns, RecordColumns};
+use record::columns::RecordColumns;
 use std::alloc::{AllocError, Global};
 use syntax::parse::parse_bytes;
 
@@ -31,6 +31,6 @@ fn print_columns(heap: Global, columns: RecordColumns<'_>) -> Result<Vec<u8>, Al
     ensures { IfOk result (λ v. v.items ≡ record_text (state columns.entry)) }
 {
     let mut out = Vec::from_slice(heap, b"record ")?;
-    push_parts::<Columns, ColumnTexts>(&mut out, columns)?;
+    push_parts(&mut out, &mut ColumnTexts::new(columns))?;
     Ok(out)
 }

@@ -9,7 +9,7 @@ use answers::plain::bad_request;
 use arrayline::requests::{array_from_sql, array_to_sql};
 use checkline::requests::check;
 use hstoreline::requests::{hstore_from_sql, hstore_to_sql};
-use lines::protocol::Protocol;
+use lines::protocol::{Protocol, Requests};
 use listing::requests::{element_list, texts};
 use pathline::requests::{path_from_sql, path_to_sql};
 use rangeline::requests::{empty_range_to_sql, range_from_sql, range_to_sql};
@@ -23,7 +23,7 @@ use syntax::compare::same;
 // The protocol of the program `codec_all`.
 pub struct Wide;
 
-impl Protocol for Wide {
+impl Requests for Wide {
     const LONGEST_LINE: usize = 1048576;
 
     ghost LONGEST_LINE = { 1048576 };
@@ -69,6 +69,12 @@ impl Protocol for Wide {
         } else {
             bad_request(heap)
         }
+    }
+}
+
+impl Protocol for Wide {
+    fn reply(heap: Global, line: &[u8]) -> Result<Vec<u8>, AllocError> {
+        reply(heap, line)
     }
 }
 

@@ -10,7 +10,7 @@ use answers::plain::{bad_request, refusal};
 use answers::written::{blank_part, print_written};
 use double::point::{Box, Point};
 use geometry::read;
-use lines::argument::on_bytes;
+use lines::argument::{Reading, on_bytes};
 use std::alloc::{AllocError, Global};
 use syntax::parse::split_at_first;
 
@@ -18,10 +18,21 @@ use syntax::parse::split_at_first;
 pub fn point_from_sql(heap: Global, argument: &[u8]) -> Result<Vec<u8>, AllocError>
     ensures { IfOk result (λ v. v.items ≡ answered (λ bs. point_answer (point_recv bs)) (bytes_in argument.now)) }
 {
-    on_bytes(heap, argument, |bytes| match read::point_from_sql(bytes) {
-        Ok(point) => print_point(heap, point),
-        Err(fault) => refusal(heap, fault),
-    })
+    on_bytes::<ReadPoint>(heap, argument)
+}
+
+// A point.
+struct ReadPoint;
+
+impl Reading for ReadPoint {
+    ghost says = { λ bs. point_answer (point_recv bs) };
+
+    fn answer(heap: Global, bytes: &[u8]) -> Result<Vec<u8>, AllocError> {
+        match read::point_from_sql(bytes) {
+            Ok(point) => print_point(heap, point),
+            Err(fault) => refusal(heap, fault),
+        }
+    }
 }
 
 fn print_point(heap: Global, point: Point) -> Result<Vec<u8>, AllocError>
@@ -48,10 +59,21 @@ pub fn point_to_sql(heap: Global, argument: &[u8]) -> Result<Vec<u8>, AllocError
 pub fn box_from_sql(heap: Global, argument: &[u8]) -> Result<Vec<u8>, AllocError>
     ensures { IfOk result (λ v. v.items ≡ answered (λ bs. box_answer (box_recv bs)) (bytes_in argument.now)) }
 {
-    on_bytes(heap, argument, |bytes| match read::box_from_sql(bytes) {
-        Ok(corners) => print_box(heap, corners),
-        Err(fault) => refusal(heap, fault),
-    })
+    on_bytes::<ReadBox>(heap, argument)
+}
+
+// A box.
+struct ReadBox;
+
+impl Reading for ReadBox {
+    ghost says = { λ bs. box_answer (box_recv bs) };
+
+    fn answer(heap: Global, bytes: &[u8]) -> Result<Vec<u8>, AllocError> {
+        match read::box_from_sql(bytes) {
+            Ok(corners) => print_box(heap, corners),
+            Err(fault) => refusal(heap, fault),
+        }
+    }
 }
 
 fn print_box(heap: Global, corners: Box) -> Result<Vec<u8>, AllocError>

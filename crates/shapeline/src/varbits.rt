@@ -7,7 +7,7 @@ ghost use Rattle.shapeline.specs.Bits.{varbit_answer, varbit_written};
 
 use answers::plain::{bad_request, push_bytes, refusal};
 use answers::written::{blank_part, print_written};
-use lines::argument::on_bytes;
+use lines::argument::{Reading, on_bytes};
 use std::alloc::{AllocError, Global};
 use syntax::parse::{parse_bytes, parse_number, split_at_first};
 use syntax::print::push_decimal;
@@ -17,10 +17,21 @@ use varbit::read::{self, Varbit};
 pub fn varbit_from_sql(heap: Global, argument: &[u8]) -> Result<Vec<u8>, AllocError>
     ensures { IfOk result (λ v. v.items ≡ answered (λ bs. varbit_answer (varbit_recv bs)) (bytes_in argument.now)) }
 {
-    on_bytes(heap, argument, |bytes| match read::varbit_from_sql(bytes) {
-        Ok(bits) => print_bits(heap, &bits),
-        Err(fault) => refusal(heap, fault),
-    })
+    on_bytes::<ReadVarbit>(heap, argument)
+}
+
+// A bit string.
+struct ReadVarbit;
+
+impl Reading for ReadVarbit {
+    ghost says = { λ bs. varbit_answer (varbit_recv bs) };
+
+    fn answer(heap: Global, bytes: &[u8]) -> Result<Vec<u8>, AllocError> {
+        match read::varbit_from_sql(bytes) {
+            Ok(bits) => print_bits(heap, &bits),
+            Err(fault) => refusal(heap, fault),
+        }
+    }
 }
 
 fn print_bits(heap: Global, bits: &Varbit<'_>) -> Result<Vec<u8>, AllocError>

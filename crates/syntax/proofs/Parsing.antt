@@ -1,5 +1,5 @@
 -- Words that are read step by step.
-use Rattle.std.proofs.Common.{◌≡◌, ℕ, zero, suc, ◌+◌, ◌-◌, ◌*◌, ◌<◌, ◌≤◌, false, ◌&&◌, eqb, leb, List, [], ◌∷◌, ◌++◌, length, get_or, take, drop, Some, None, Option, sym, refl, ap, ◌∙◌, ⊎_elim, arith}
+use Rattle.std.proofs.Common.{◌≡◌, ℕ, zero, suc, ◌+◌, ◌-◌, ◌*◌, ◌%◌, ◌<◌, ◌≤◌, false, ◌&&◌, eqb, leb, List, [], ◌∷◌, ◌++◌, length, get_or, take, drop, Some, None, Option, sym, refl, ap, ◌∙◌, ⊎_elim, arith}
 use Rattle.std.proofs.lemmas.List.{append_assoc, at_drop_more, at_drop_all}
 use Rattle.std.proofs.lemmas.Bool.{false≢true, cond-true, cond-false, cond_both, eq-eqb, ne_eqb, cases_Bool, leb-false, lt-leb}
 use Rattle.std.proofs.lemmas.Slice.{between_to_end}
@@ -70,6 +70,16 @@ module _ (cs : List ℕ) (n i : ℕ) (inv : number_after (Some n) (drop i cs) �
 
   pub number_end : (most : ℕ) → length cs ≤ i → false ≡ eqb (length cs) 0 → number_in most cs ≡ at_most most (Some n)
   number_end most h some = some_digits most cs some ∙ ap (at_most most) (sym inv ∙ at_drop_all (number_after (Some n)) cs i h)
+
+-- digits come in pairs
+pub unhex_odd : (ds : List ℕ) → (length ds % 2 ≡ 0 → ⊥) → unhex ds ≡ None
+unhex_odd [] odd = absurd (odd refl)
+unhex_odd (a ∷ []) odd = refl
+unhex_odd (a ∷ b ∷ ds) odd = ap (in_front _) (unhex_odd ds (λ e. odd (omega arith))) ∙ none_behind (byte_of (nibble a) (nibble b))
+  where
+    none_behind : (o : Option ℕ) → in_front o None ≡ None
+    none_behind (Some b) = refl
+    none_behind None = refl
 
 -- a byte that is read goes behind the others
 pub unhex_more : (bs ds : List ℕ) (x : ℕ) → 1 < length ds → Some x ≡ byte_of (nibble (get_or ds 0 0)) (nibble (get_or ds 1 0))

@@ -42,6 +42,9 @@ fn append_digit(n: u64, c: u8) -> Option<u64>
 pub fn parse_hex(heap: Global, digits: &[u8]) -> Result<Option<Vec<u8>>, AllocError>
     ensures { IfOk result (λ o. option_map vec_items o ≡ unhex digits.now) }
 {
+    if digits.len() % 2 != 0 {
+        return Ok(None);
+    }
     let mut bytes = Vec::with_capacity(heap, digits.len() / 2)?;
     let mut rest = digits;
     while let [high, low, behind @ ..] = rest {

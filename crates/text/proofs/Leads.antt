@@ -8,7 +8,7 @@ use Rattle.std.specs.Option.{unwrap_or}
 use Rattle.text.specs.Octets.{announced, counted}
 use Rattle.text.specs.Recv.{character}
 use Rattle.text.proofs.Ones.{ones0, ones1, ones2, ones3, ones4, ones5, ones}
-use Rattle.text.proofs.Rows.{is_none, not_two, not_three, not_four}
+use Rattle.text.proofs.Rows.{is_one, is_none, not_two, not_three, not_four}
 
 module _ (b : ℕ) (rest : List ℕ) (h : b < 256) where
   -- too few bytes
@@ -20,6 +20,17 @@ module _ (b : ℕ) (rest : List ℕ) (h : b < 256) where
         | ones2 l u _ k ↦ not_two (b ∷ rest) (l, u) (λ n _. omega arith)
         | ones3 l u _ k ↦ not_three (b ∷ rest) (l, u) (λ n _. omega arith)
         | ones4 l u _ k ↦ not_four (b ∷ rest) (l, u) (λ n _. omega arith)
+        | ones5 _ _ k ↦ absurd (omega arith)
+      ]
+
+  pub led_one : announced b ≡ 1 → character (b ∷ rest) ≡ 1
+  led_one e =
+      elim (ones b h) [
+        | ones0 u _ _ ↦ is_one (b ∷ rest) (omega arith) u
+        | ones1 _ _ _ k ↦ absurd (omega arith)
+        | ones2 _ _ _ k ↦ absurd (omega arith)
+        | ones3 _ _ _ k ↦ absurd (omega arith)
+        | ones4 _ _ _ k ↦ absurd (omega arith)
         | ones5 _ _ k ↦ absurd (omega arith)
       ]
 

@@ -1,11 +1,11 @@
 -- The leading ones of an octet, and the octets that they announce.
-use Rattle.std.proofs.Common.{◌≡◌, ℕ, ◌+◌, ◌-◌, ◌*◌, ◌^◌, ◌<◌, ◌≤◌, Some, None, sym, refl, ap, ◌∙◌, ⊎_elim, arith, pow_mono}
+use Rattle.std.proofs.Common.{◌≡◌, ℕ, ◌+◌, ◌-◌, ◌*◌, ◌^◌, ◌<◌, ◌≤◌, cond, eqb, Some, None, sym, refl, ap, ◌∙◌, ⊎_elim, arith, pow_mono}
 use lib.Count.{count_leading_zeros, leading_unique, leading_length}
-use Rattle.std.proofs.lemmas.Bool.{cases_lt}
+use Rattle.std.proofs.lemmas.Bool.{cases_lt, cond-false, ne_eqb}
 use Rattle.std.proofs.lemmas.Bool.Decides.{nat_tests}
 use Rattle.std.specs.Int.{leading_ones}
 use mir.Syntax.{w8}
-use Rattle.text.specs.Octets.{announced, counted}
+use Rattle.text.specs.Octets.{announced, counted, Tail}
 
 -- b has n leading ones, and announces m octets
 pub data Ones (b n m : ℕ) : Type 0 where
@@ -63,3 +63,45 @@ module _ (b : ℕ) (h : b < 256) (l : 0x80 ≤ b) where
 
   pub led_many : 4 < leading_ones w8 b → counted (announced b) ≡ None
   led_many f = unled (λ p q. omega arith)
+
+-- the octets that n leading ones announce
+abbrev pub by_ones : ℕ → ℕ
+by_ones n = cond (eqb n 0) 1 (cond (eqb n 2) 2 (cond (eqb n 3) 3 (cond (eqb n 4) 4 0)))
+
+pub by_rest : (n : ℕ) → (n ≡ 0 → ⊥) → (n ≡ 2 → ⊥) → (n ≡ 3 → ⊥) → (n ≡ 4 → ⊥) → by_ones n ≡ 0
+by_rest n p q r s = cond-false _ _ _ (ne_eqb n 0 p) ∙ cond-false _ _ _ (ne_eqb n 2 q) ∙ cond-false _ _ _ (ne_eqb n 3 r) ∙ cond-false _ _ _ (ne_eqb n 4 s)
+
+pub announced_by : (b n : ℕ) → b < 256 → n ≡ count_leading_zeros 8 (255 - b) → by_ones n ≡ announced b
+announced_by b n h e = ap by_ones e ∙ told (ones b h)
+  where
+    told : {k m : ℕ} → Ones b k m → by_ones k ≡ m
+    told (ones0 _ p q) = ap by_ones p ∙ sym q
+    told (ones1 _ _ p q) = ap by_ones p ∙ sym q
+    told (ones2 _ _ p q) = ap by_ones p ∙ sym q
+    told (ones3 _ _ p q) = ap by_ones p ∙ sym q
+    told (ones4 _ _ p q) = ap by_ones p ∙ sym q
+    told {k} (ones5 _ l q) = by_rest k (λ p. omega arith) (λ p. omega arith) (λ p. omega arith) (λ p. omega arith) ∙ sym q
+
+-- a tail octet has one
+module _ (b n m : ℕ) (o : Ones b n m) where
+  pub tail_from : n ≡ 1 → Tail b
+  tail_from e =
+      elim o [
+        | ones0 _ k _ ↦ absurd (omega arith)
+        | ones1 l u _ _ ↦ (l, omega arith)
+        | ones2 _ _ k _ ↦ absurd (omega arith)
+        | ones3 _ _ k _ ↦ absurd (omega arith)
+        | ones4 _ _ k _ ↦ absurd (omega arith)
+        | ones5 _ l _ ↦ absurd (omega arith)
+      ]
+
+  pub from_tail : Tail b → n ≡ 1
+  from_tail t =
+      elim o [
+        | ones0 u _ _ ↦ absurd (omega arith)
+        | ones1 _ _ k _ ↦ k
+        | ones2 l _ _ _ ↦ absurd (omega arith)
+        | ones3 l _ _ _ ↦ absurd (omega arith)
+        | ones4 l _ _ _ ↦ absurd (omega arith)
+        | ones5 l _ _ ↦ absurd (omega arith)
+      ]

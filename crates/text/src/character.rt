@@ -34,12 +34,12 @@ fn character_length(bytes: &[u8], at: usize) -> Option<usize>
     if bytes.len() - at < length {
         return None;
     }
-    let whole = match length {
-        2 => two_octets(first, bytes[at + 1]),
-        3 => three_octets(first, bytes[at + 1], bytes[at + 2]),
-        _ => four_octets(first, bytes[at + 1], bytes[at + 2], bytes[at + 3]),
-    };
-    whole.then_some(length)
+    // Each length by its own number, so that the next place does not wait for the count of ones.
+    match length {
+        2 => two_octets(first, bytes[at + 1]).then_some(2),
+        3 => three_octets(first, bytes[at + 1], bytes[at + 2]).then_some(3),
+        _ => four_octets(first, bytes[at + 1], bytes[at + 2], bytes[at + 3]).then_some(4),
+    }
 }
 
 // How many octets the first one announces.

@@ -14,8 +14,8 @@ pub returns : goal.returns
 returns c =
     let nulls = c.has_nulls.result in
     let oid = c.from.result in
-    let ds = state c.dimensions.result in
-    let vs = state c.values.result in
+    let ds = state c.new.result.cursor in
+    let vs = state c.new-2.result.cursor in
     let flag = c.in_ok-push_flag.ensures ∙ ap (λ l. l ++ flag_text nulls) c.in_ok-out.ensures.items in
     let named = pushed (codes " oid=") flag c.in_ok-extend_from_slice.was c.extend_from_slice.ensures.items in
     let typed = c.in_ok-push_decimal.ensures ∙ ap (λ l. l ++ decimal oid) named in
@@ -24,4 +24,4 @@ returns c =
     let begun = pushed (codes " values=") sized c.in_ok-extend_from_slice-3.was c.extend_from_slice-3.ensures.items in
     c.in_ok-push_parts-2.ensures
     ∙ ap (λ l. l ++ parts_text (texts_of value_text read_nullable) vs) begun
-    ∙ array_parts (opened c.args.array.now) nulls oid ds vs c.has_nulls.ensures (c.from.ensures ∙ c.element_type.ensures) c.dimensions.ensures c.values.ensures
+    ∙ array_parts (opened c.args.array.now) nulls oid ds vs c.has_nulls.ensures (c.from.ensures ∙ c.element_type.ensures) (ap state c.new.ensures ∙ c.dimensions.ensures) (ap state c.new-2.ensures ∙ c.values.ensures)

@@ -13,10 +13,10 @@ loop-point-preserved c =
     let ps = c.args.points.now in
     let i = c.loop-point.point-index in
     let long = length_front ps i (omega arith) in
-    let same : c.in_ok-end.end ≡ c.loop-point.end + 16 = let a = c.in_ok-end.ensures.answer in cc in (
+    let same : c.put_point-end.result ≡ c.loop-point.end + 16 = c.put_point-end.ensures.answer in (
       c.loop-point.invariant.0,
       omega arith,
-      put_on at _ (points_layout (take i ps)) (point_layout (get_or ps i _)) part (omega arith) (omega arith) c.loop-point.invariant.2 c.put_point.ensures.after
+      put_on at _ (points_layout (take i ps)) (point_layout (get_or ps i _)) part (omega arith) (omega arith) c.loop-point.invariant.2 c.put_point-end.ensures.after
           ∙ ap (λ ws. put at ws part) (sym (points_more ps i _ c.loop-point-test.true)),
     )
 

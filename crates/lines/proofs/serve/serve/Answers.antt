@@ -6,7 +6,7 @@ use Rattle.lines.proofs.serve.serve.Goals as goal
 
 pub returns-then-branch-eq0-clause-answers : goal.returns-then-branch-eq0-clause-answers
 returns-then-branch-eq0-clause-answers g c =
-    let p = g.P.Protocol in
+    let p = g.P.Requests in
     let reply = reply_to p.LONGEST_LINE p.named p.alone in
     let r = g.R.Read.remaining c.args.input.now in
     let r1 = g.R.Read.remaining c.loop.input in
@@ -16,13 +16,13 @@ returns-then-branch-eq0-clause-answers g c =
     let w2 = g.W.Write.contents c.answer_some.new.output in
     let held = vec_items c.answer_some.new.lines.line in
     let e = c.in_ok-answer_some.ensures in
-    let now = served_on p.LONGEST_LINE reply r r1 r2 w w1 w2 (vec_items c.loop.lines.line) held e.0 e.1 c.loop.invariant e.2 e.4 e.5 in
-    let end = e.3 c.if-branch-eq0.true in
+    let now = served_on p.LONGEST_LINE reply r r1 r2 w w1 w2 (vec_items c.loop.lines.line) held e.1 e.2 c.loop.invariant.1 e.3 e.5 e.6 in
+    let end = e.4 c.if-branch-eq0.true in
     IfOk-weaker c.answer_rest.result _ _ (λ _ d. served_all p.LONGEST_LINE reply r r2 w w2 _ held d.0 now end d.1 d.2) c.answer_rest.ensures
 
 pub loop-preserved : goal.loop-preserved
 loop-preserved g c =
-    let p = g.P.Protocol in
+    let p = g.P.Requests in
     let reply = reply_to p.LONGEST_LINE p.named p.alone in
     let r = g.R.Read.remaining c.args.input.now in
     let r1 = g.R.Read.remaining c.loop.input in
@@ -32,4 +32,4 @@ loop-preserved g c =
     let w2 = g.W.Write.contents c.answer_some.new.output in
     let held = vec_items c.answer_some.new.lines.line in
     let e = c.in_ok-answer_some.ensures in
-    served_on p.LONGEST_LINE reply r r1 r2 w w1 w2 (vec_items c.loop.lines.line) held e.0 e.1 c.loop.invariant e.2 e.4 e.5
+    (e.0, served_on p.LONGEST_LINE reply r r1 r2 w w1 w2 (vec_items c.loop.lines.line) held e.1 e.2 c.loop.invariant.1 e.3 e.5 e.6)

@@ -3,8 +3,11 @@ use Rattle.std.proofs.lemmas.List.{take_all, length-drop}
 use Rattle.std.proofs.lemmas.Slice.{pushed}
 use Rattle.std.specs.Option.{option_map}
 use Rattle.syntax.specs.Parsed.{unhex}
-use Rattle.syntax.proofs.Parsing.{unhex_more}
+use Rattle.syntax.proofs.Parsing.{unhex_odd, unhex_more}
 use Rattle.syntax.proofs.parse.parse_hex.Goals as goal
+
+pub returns-then-digits-ne0 : goal.returns-then-digits-ne0
+returns-then-digits-ne0 c = sym (unhex_odd c.args.digits.now c.if-digits-ne0.true)
 
 pub loop-rest-preserved : goal.loop-rest-preserved
 loop-rest-preserved c =

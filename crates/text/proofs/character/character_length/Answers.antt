@@ -1,12 +1,10 @@
 use Rattle.std.proofs.Common.{◌≡◌, ◌+◌, ◌∷◌, get_or, drop, sym, ap, ◌∙◌, ⊎_elim, arith}
 use Rattle.std.proofs.lemmas.List.{drop_all, drop_more, length-drop}
-use Rattle.std.specs.Bool.{then_some}
 use Rattle.text.specs.Octets.{announced, counted}
 use Rattle.text.specs.Recv.{character}
 use Rattle.text.proofs.Leads.{too_short, no_lead, lead_four, uncounted, counted_is, tested, overlong, drop_two, drop_three, drop_four}
 use Rattle.text.proofs.Rows.{is_one}
 use Rattle.text.proofs.character.character_length.Goals as goal
-use Rattle.text.proofs.character.character_length.Goals.{in-2, in-3, in_default}
 
 pub returns-then-at-bytes : goal.returns-then-at-bytes
 unfolding character
@@ -44,22 +42,27 @@ returns-then-bytes-at c =
     sym (ap counted (ap character (drop_more bs at 0 c.if-at-bytes.false)
     ∙ too_short first (drop (at + 1) bs) (omega (arith, c.type_inv.bytes at)) (omega arith)))
 
-pub returns : goal.returns
-returns c =
+pub returns-in-2 : goal.returns-in-2
+returns-in-2 c =
+    let bs = c.args.bytes.now in
+    let at = c.args.at in
+    c.then_some.ensures ∙ tested c.two_octets.result 2 (omega arith)
+    ∙ ap counted (c.two_octets.ensures (drop (at + 2) bs) ∙ sym (ap character (drop_two bs at (omega arith))))
+
+pub returns-in-3 : goal.returns-in-3
+returns-in-3 c =
+    let bs = c.args.bytes.now in
+    let at = c.args.at in
+    c.then_some-in-3.ensures ∙ tested c.three_octets.result 3 (omega arith)
+    ∙ ap counted (c.three_octets.ensures (drop (at + 3) bs) ∙ sym (ap character (drop_three bs at (omega arith))))
+
+pub returns-in_default : goal.returns-in_default
+returns-in_default c =
     let bs = c.args.bytes.now in
     let at = c.args.at in
     let first = get_or bs at 0 in
     let length = counted_is (announced first) c.in_ok-length.length c.in_ok-length.ensures in
-    c.then_some.ensures ∙ elim c.match-length.branch [
-      | in-2 w ↦
-          (λ i. then_some (w.whole-is i) (w.in-2.is i)) ∙ tested w.two_octets-whole.result 2 (omega arith)
-          ∙ ap counted (w.two_octets-whole.ensures (drop (at + 2) bs) ∙ sym (ap character (drop_two bs at (omega arith))))
-      | in-3 w ↦
-          (λ i. then_some (w.whole-is i) (w.in-3.is i)) ∙ tested w.three_octets-whole.result 3 (omega arith)
-          ∙ ap counted (w.three_octets-whole.ensures (drop (at + 3) bs) ∙ sym (ap character (drop_three bs at (omega arith))))
-      | in_default w ↦
-          let four : c.in_ok-length.length ≡ 4 =
-          length.0 ∙ lead_four first (drop (at + 1) bs) (omega (arith, c.type_inv.bytes at)) (omega arith) length.1 (λ e. omega arith) (λ e. omega arith) in
-          (λ i. then_some (w.whole-is i) (four i)) ∙ tested w.four_octets-whole.result 4 (omega arith)
-          ∙ ap counted (w.four_octets-whole.ensures (drop (at + 4) bs) ∙ sym (ap character (drop_four bs at (omega arith))))
-    ]
+    let four : c.in_ok-length.length ≡ 4 =
+    length.0 ∙ lead_four first (drop (at + 1) bs) (omega (arith, c.type_inv.bytes at)) (omega arith) length.1 (λ e. omega arith) (λ e. omega arith) in
+    c.then_some-in_default.ensures ∙ tested c.four_octets.result 4 (omega arith)
+    ∙ ap counted (c.four_octets.ensures (drop (at + 4) bs) ∙ sym (ap character (drop_four bs at (omega arith))))

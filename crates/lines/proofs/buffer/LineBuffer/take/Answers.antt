@@ -1,19 +1,31 @@
-use Rattle.std.proofs.Common.{ℕ, List, [], ◌∷◌, get_or, take, vec_items, sym, subst}
-use Rattle.std.proofs.lemmas.List.{take_more}
-use Rattle.lines.specs.Lines.{Taken}
+use Rattle.std.proofs.Common.{ℕ, List, ◌++◌, vec_items, ap, ◌∙◌, subst}
+use Rattle.std.proofs.lemmas.Result.{IfOk-weaker}
+use Rattle.lines.specs.Lines.{answer_line, Taken}
 use Rattle.lines.specs.Reply.{reply_to}
-use Rattle.lines.proofs.Taking.{taken_on}
+use Rattle.lines.proofs.Taking.{split_less, taken_line, taken_piece}
 use Rattle.lines.proofs.buffer.LineBuffer.take.Goals as goal
 
-pub loop-b-preserved : goal.loop-b-preserved
-loop-b-preserved g c =
-    let longest = g.P.Protocol.LONGEST_LINE in
-    let reply = reply_to longest g.P.Protocol.named g.P.Protocol.alone in
-    let held = vec_items c.args.self.now.line in
-    let out = vec_items c.args.out.now in
-    let bs = c.args.bytes.now in
-    let i = c.loop-b.b-index in
-    let after = vec_items c.take_byte.new.out in
-    let holds = vec_items c.take_byte.new.self.line in
-    let all = taken_on longest reply held (take i bs) (get_or bs i 0 ∷ []) out (vec_items c.loop-b.out) (vec_items c.loop-b.self.line) after holds c.loop-b.invariant c.in_ok-take_byte.ensures in
-    subst (λ (l : List ℕ). Taken longest reply held l out after holds) (sym (take_more bs i 0 c.loop-b-test.true)) all
+pub loop-piece-smaller : goal.loop-piece-smaller
+loop-piece-smaller g c = split_less 10 c.loop-piece.rest.now c.in-Some.piece.now c.in-Some.behind.now c.in-Some.ensures
+
+pub loop-piece-preserved : goal.loop-piece-preserved
+loop-piece-preserved g c after holds next =
+    let p = g.P.Requests in
+    let reply = reply_to p.LONGEST_LINE p.named p.alone in
+    let held = vec_items c.loop-piece.self.line in
+    let out = vec_items c.loop-piece.out in
+    let mid = vec_items c.answer.new.out in
+    let behind = c.in-Some.behind.now in
+    let wrote = c.in_ok-answer.ensures.0 ∙ ap (λ l. out ++ answer_line reply l) c.in_ok-push.ensures in
+    let on = subst (λ (l : List ℕ). Taken p.LONGEST_LINE reply l behind mid after holds) c.in_ok-answer.ensures.1 next in
+    c.loop-piece.invariant after holds (taken_line p.LONGEST_LINE p.named p.alone held c.loop-piece.rest.now c.in-Some.piece.now behind out mid after holds c.in-Some.ensures wrote on)
+
+pub returns : goal.returns
+returns g c =
+    let p = g.P.Requests in
+    let held = vec_items c.loop-piece.self.line in
+    let out = vec_items c.loop-piece.out in
+    let holds = vec_items c.push-2.new.self.line in
+    IfOk-weaker c.push-2.result _ _
+    (λ _ kept. c.loop-piece.invariant out holds (taken_piece p.LONGEST_LINE p.named p.alone held c.loop-piece.rest.now out holds c.in_default.ensures kept))
+    c.push-2.ensures

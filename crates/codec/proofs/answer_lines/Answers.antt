@@ -1,0 +1,4 @@
+use Rattle.codec.proofs.answer_lines.Goals as goal
+
+pub returns : goal.returns
+returns g c = c.serve.ensures
