@@ -46,7 +46,7 @@ pub struct CursorTexts<'a, P, T> {
     texts: PhantomData<T>,
 }
 
-impl<'a, P, T> CursorTexts<'a, P, T> {
+impl<'a, P: Part<'a>, T> CursorTexts<'a, P, T> {
     pub fn new(cursor: Cursor<'a, P>) -> CursorTexts<'a, P, T>
         ensures { result.cursor ≡ cursor.entry }
     {
@@ -92,7 +92,8 @@ pub fn push_parts<P: Parts>(out: &mut Vec<u8>, parts: &mut P) -> Result<(), Allo
     Ok(())
 }
 
-fn push_comma(out: &mut Vec<u8>, first: bool) -> Result<(), AllocError>
+// What stands before a part, unless it is the first.
+pub fn push_comma(out: &mut Vec<u8>, first: bool) -> Result<(), AllocError>
     ensures { OnOk result (out.new.items ≡ out.old.items ++ comma first) }
 {
     if !first {

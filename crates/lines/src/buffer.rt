@@ -53,9 +53,20 @@ impl<P: Protocol> LineBuffer<P> {
         ensures { OnOk result (self.new.line.items ≡ more P.LONGEST_LINE self.old.line.items piece.now) }
     {
         if self.line.len() <= P::LONGEST_LINE {
+            self.begin()?;
             let room = (P::LONGEST_LINE - self.line.len()).saturating_add(1);
             self.line
                 .extend_from_slice(&piece[..piece.len().min(room)])?;
+        }
+        Ok(())
+    }
+
+    // Begins with as much memory as a read gives, so that it grows by doubling to just the longest line.
+    fn begin(&mut self) -> Result<(), AllocError>
+        ensures { OnOk result (self.new.line.items ≡ self.old.line.items) }
+    {
+        if self.line.capacity() == 0 {
+            self.line.reserve(4096)?;
         }
         Ok(())
     }
