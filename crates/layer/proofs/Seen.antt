@@ -1,9 +1,11 @@
 -- What the call for a range sees, and what it answers.
-use Rattle.std.proofs.Common.{◌≡◌, ℕ, ◌^◌, ◌<◌, List, length, Ok, Err, Result, sym, ap, ◌∙◌, arith}
+use Rattle.std.proofs.Common.{◌≡◌, ℕ, ◌^◌, ◌<◌, List, length, Ok, Err, Result, sym, refl, ap, ◌∙◌, arith}
 use Rattle.fault.specs.declared.Fault.{Fault}
 use Rattle.array.specs.Encoding.{counted}
 use Rattle.range.specs.declared.bound.RangeBound.{RangeBound}
+use Rattle.range.specs.declared.bound.RangeBound.TheVariants.{Inclusive, Exclusive}
 use Rattle.range.specs.Encoding.{range_encoding}
+use Rattle.range.specs.Mapping.{Mapped, inclusive, exclusive, unbounded}
 use Rattle.wire.specs.Encoding.{Encoding, told}
 use Rattle.wire.specs.Items.{Item}
 use Rattle.rows.specs.declared.row.RangeRow.{RangeRow}
@@ -19,6 +21,12 @@ same_window items {s} {t} {f} {g} {n} {m} e = ap (λ x. window (items x) f n) e.
 pub told_counted : (e : Encoding) (r : Result ℕ Fault) → ((n : ℕ) → r ≡ Ok n → n < 2 ^ 64) → r ≡ told e → r ≡ counted e
 told_counted (Ok ws) r fits t = let small = fits (length ws) t in t ∙ ap Ok (omega arith)
 told_counted (Err f) r fits t = t
+
+-- a bound around the same number
+pub same_bound : {R : ℕ → ℕ → Type 0} {b c : RangeBound ℕ} → Mapped R b c → ((k n : ℕ) → R k n → n ≡ k) → c ≡ b
+same_bound (inclusive r) same = ap Inclusive (same _ _ r)
+same_bound (exclusive r) same = ap Exclusive (same _ _ r)
+same_bound unbounded same = refl
 
 module _ {S : Type 0} (items : S → List Item) (s t : S) (first count : ℕ) where
   pub range_seen : (lower upper : RangeBound ℕ) {l u : RangeBound ℕ} {r : RangeRow} → (s ≡ t) × (first ≡ 0) × (count ≡ 65536) → l ≡ lower → u ≡ upper → r ≡ Bounds lower upper → range_encoding (window (items s) first count) l u ≡ range_row (items t) r

@@ -91,3 +91,47 @@ fn push_answer<P: Protocol>(heap: Global, line: &[u8], out: &mut Vec<u8>) -> Res
     out.push(b'\n')?;
     Ok(())
 }
+
+#[cfg(test)]
+mod tests {
+    use super::LineBuffer;
+    use crate::protocol::{Protocol, Requests};
+    use std::alloc::{AllocError, Global};
+    use std::test::Fail;
+
+    // Answers a request by what follows its name, and a word alone by the word.
+    struct Echo;
+
+    impl Requests for Echo {
+        const LONGEST_LINE: usize = 6;
+
+        ghost LONGEST_LINE = { 6 };
+
+        ghost named = { λ name rest. rest };
+
+        ghost alone = { λ word. word };
+
+        fn answer(heap: Global, _name: &[u8], argument: &[u8]) -> Result<Vec<u8>, AllocError> {
+            Vec::from_slice(heap, argument)
+        }
+
+        fn answer_alone(heap: Global, word: &[u8]) -> Result<Vec<u8>, AllocError> {
+            Vec::from_slice(heap, word)
+        }
+    }
+
+    // By the words of the line, as for any requests that name no function of their own.
+    impl Protocol for Echo {}
+
+    #[test]
+    fn answers(rt: HostRuntime) -> Result<(), Fail> {
+        let heap = rt.alloc();
+        let mut lines = LineBuffer::<Echo>::new(heap);
+        let mut out = Vec::new(heap);
+        lines.take(heap, b"a bc\nab", &mut out)?;
+        lines.take(heap, b"c\n123456\n1234567\n x", &mut out)?;
+        lines.end(heap, &mut out)?;
+        assert!(rt; *out == *b"bc\nabc\n123456\nbad request\nx\n".as_slice());
+        Ok(())
+    }
+}

@@ -26,11 +26,14 @@ pub trait Requests {
         ensures { IfOk result (λ v. v.items ≡ alone word.now) };
 }
 
-// Requests, with the answer that a program prints for a line. `reply` gives it; a protocol names here the
+// Requests, with the answer that a program prints for a line. `reply` gives it; a protocol may name here the
 // function that has it as its contract, so that the program goes through that function.
 pub trait Protocol: Requests {
     fn reply(heap: Global, line: &[u8]) -> Result<Vec<u8>, AllocError>
-        ensures { IfOk result (λ v. v.items ≡ reply_to Self.LONGEST_LINE Self.named Self.alone line.now) };
+        ensures { IfOk result (λ v. v.items ≡ reply_to Self.LONGEST_LINE Self.named Self.alone line.now) }
+    {
+        reply::<Self>(heap, line)
+    }
 }
 
 // The answer to a line by its words; it fails only for want of memory.
